@@ -1,0 +1,2 @@
+pub mod ReadsCaep
+pub mod WrittenCaep

@@ -1,0 +1,74 @@
+ghost use Rattle.std.specs.Prelude.{◌≡◌, IfOk};
+ghost use Rattle.serde_json.specs.View.{members_view};
+ghost use Rattle.sig_json.specs.Payloads.{put_all};
+ghost use Rattle.sig_caep.specs.Events.{kept_of, type_of};
+ghost use Rattle.sig_caep.specs.Table.{caep_table};
+
+use crate::{CaepKind, Change, Compliance, Direction};
+use sig_json::{
+    AnyText, FilledObject, Memory, OneOf, Payload, TextOrTexts, put_member, put_optional_member,
+};
+use std::alloc::Global;
+
+impl CaepKind {
+    /// Puts the members of its type.
+    pub(crate) fn put(&self, alloc: Global, payload: &mut Payload) -> Result<(), Memory>
+        ensures { IfOk result (λ _. members_view payload.new.entries
+            ≡ put_all (caep_table (type_of self.now)).rules (kept_of self.now) (members_view payload.old.entries)) }
+    {
+        match self {
+            CaepKind::SessionRevoked => Ok(()),
+            CaepKind::TokenClaimsChange { claims } => put_member::<FilledObject>(
+                alloc, payload, "claims", claims,
+            ),
+            CaepKind::CredentialChange {
+                credential_type,
+                change_type,
+            } => {
+                put_member::<AnyText>(alloc, payload, "credential_type", credential_type)?;
+                put_member::<OneOf<Change>>(alloc, payload, "change_type", change_type)
+            }
+            CaepKind::AssuranceLevelChange {
+                namespace,
+                current_level,
+                change_direction,
+            } => {
+                put_optional_member::<AnyText>(alloc, payload, "namespace", namespace)?;
+                put_member::<AnyText>(alloc, payload, "current_level", current_level)?;
+                put_optional_member::<OneOf<Direction>>(
+                    alloc,
+                    payload,
+                    "change_direction",
+                    change_direction,
+                )
+            }
+            CaepKind::DeviceComplianceChange {
+                previous_status,
+                current_status,
+            } => {
+                put_member::<OneOf<Compliance>>(
+                    alloc,
+                    payload,
+                    "previous_status",
+                    previous_status,
+                )?;
+                put_member::<OneOf<Compliance>>(alloc, payload, "current_status", current_status)
+            }
+            CaepKind::SessionEstablished {
+                acr,
+                amr,
+                ext_id,
+                fp_ua,
+            } => {
+                put_optional_member::<AnyText>(alloc, payload, "acr", acr)?;
+                put_optional_member::<TextOrTexts>(alloc, payload, "amr", amr)?;
+                put_optional_member::<AnyText>(alloc, payload, "ext_id", ext_id)?;
+                put_optional_member::<AnyText>(alloc, payload, "fp_ua", fp_ua)
+            }
+            CaepKind::SessionPresented { ext_id, fp_ua } => {
+                put_optional_member::<AnyText>(alloc, payload, "ext_id", ext_id)?;
+                put_optional_member::<AnyText>(alloc, payload, "fp_ua", fp_ua)
+            }
+        }
+    }
+}

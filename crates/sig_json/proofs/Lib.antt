@@ -1,0 +1,13 @@
+pub mod CanonTexts
+pub mod CheckLemmas
+pub mod MemberLemmas
+pub mod ReadsMember
+pub mod JsonLemmas
+pub mod OrderedMembers
+pub mod ReadBack
+pub mod Decided
+pub mod MemberSteps
+pub mod SpelledTexts
+pub mod Spelled
+pub mod Shapes
+pub mod PutMembers

@@ -1,0 +1,5 @@
+pub mod Compact
+pub mod Hmac
+pub mod Key
+pub mod Laws
+pub use Rattle.sig_json.specs.Answers

@@ -1,0 +1,68 @@
+//! HMAC with SHA-256 (RFC 2104).
+
+ghost use Rattle.std.specs.Prelude.{◌≡◌, ◌≤◌, ◌++◌, length, drop};
+ghost use Rattle.sig_jws.specs.Hmac.{block_of, hmac_of, mixed};
+
+use sha2::{Digest, Sha256};
+
+/// Bytes of a MAC.
+pub const MAC_BYTES: usize = 32;
+
+/// Bytes of one block of the hash.
+const BLOCK_BYTES: usize = 64;
+
+/// The byte that the key is mixed with before the message.
+const INNER_PAD: u8 = 0x36;
+
+/// The byte that the key is mixed with before the inner digest.
+const OUTER_PAD: u8 = 0x5c;
+
+/// The 32 bytes of the MAC of a message under a key of any length (RFC 2104, section 2, with SHA-256). It takes no
+/// memory.
+#[tactic(auto, unfolding(crate::specs::Hmac::hmac_of))]
+pub fn hmac(key: &[u8], message: &[u8]) -> [u8; MAC_BYTES]
+    ensures { result ≡ hmac_of key.now message.now }
+{
+    let block = block_from(key);
+    let mut inner = Sha256::new();
+    inner.update(&mixed_with(&block, INNER_PAD));
+    inner.update(message);
+    let inner = inner.finalize();
+    let mut outer = Sha256::new();
+    outer.update(&mixed_with(&block, OUTER_PAD));
+    outer.update(&inner);
+    outer.finalize()
+}
+
+// The key as one block of the hash.
+fn block_from(key: &[u8]) -> [u8; BLOCK_BYTES]
+    ensures { result ≡ block_of key.now }
+{
+    let mut block = [0u8; BLOCK_BYTES];
+    if key.len() > BLOCK_BYTES {
+        let digest = Sha256::digest(key);
+        put_front(&mut block, &digest);
+    } else {
+        put_front(&mut block, key);
+    }
+    block
+}
+
+fn mixed_with(block: &[u8; BLOCK_BYTES], byte: u8) -> [u8; BLOCK_BYTES]
+    ensures { result ≡ mixed byte block.now }
+{
+    let mut out = *block;
+    for x in out.iter_mut() {
+        *x ^= byte;
+    }
+    out
+}
+
+// Writes the bytes over the front of the block.
+fn put_front(block: &mut [u8], bytes: &[u8])
+    requires { length bytes.now ≤ length block.old }
+    ensures { block.new ≡ bytes.now ++ drop (length bytes.now) block.old }
+{
+    let (front, _) = block.split_at_mut(bytes.len());
+    front.copy_from_slice(bytes);
+}

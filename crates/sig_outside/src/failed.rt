@@ -1,0 +1,3 @@
+/// A call of a device failed: of a source, a sink, a disk, a link or a door. The device has counted it.
+#[derive(Clone, Copy, Debug, PartialEq, Eq, Hash)]
+pub struct Failed;

@@ -1,0 +1,2 @@
+pub mod ReadsRisc
+pub mod WrittenRisc

@@ -1,0 +1,2 @@
+pub mod JudgementLemmas
+pub mod JournalLemmas

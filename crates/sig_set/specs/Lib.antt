@@ -1,0 +1,9 @@
+pub mod Checks
+pub mod FirstForm
+pub mod Judgement
+pub mod Pair
+pub mod Journal
+pub mod Table
+pub mod Printed
+pub mod Spelled
+pub mod Receiver

@@ -1,0 +1,9 @@
+pub mod Deciding
+pub mod Fields
+pub mod FormatNames
+pub mod Identity
+pub mod Passing
+pub mod PlainReading
+pub mod SubjectReading
+pub mod WrittenBack
+pub mod ProperRead

@@ -1,0 +1,5 @@
+pub mod Formats
+pub mod Matching
+pub mod Reading
+pub mod Subjects
+pub mod Written

@@ -1,0 +1,48 @@
+ghost use Rattle.std.specs.Prelude.{◌≡◌};
+ghost use Rattle.sig_subject.specs.Formats.{format_in, formats};
+
+/// A format of an identifier without parts (RFC 9493, section 3.2; OpenID Shared Signals Framework 1.0, section 4).
+#[derive(Clone, Copy, Debug, PartialEq, Eq)]
+pub enum PlainFormat {
+    Account,
+    Email,
+    IssSub,
+    Opaque,
+    Phone,
+    Did,
+    Uri,
+    JwtId,
+    Saml,
+    /// Any name that is not known here.
+    Unknown,
+}
+
+/// A format of a subject.
+#[derive(Clone, Copy, Debug, PartialEq, Eq)]
+pub enum Format {
+    Plain(PlainFormat),
+    Aliases,
+    Complex,
+}
+
+impl Format {
+    /// The format of this name.
+    pub fn named(name: &str) -> Format
+        ensures { result ≡ format_in name.now formats }
+    {
+        match name {
+            "account" => Format::Plain(PlainFormat::Account),
+            "email" => Format::Plain(PlainFormat::Email),
+            "iss_sub" => Format::Plain(PlainFormat::IssSub),
+            "opaque" => Format::Plain(PlainFormat::Opaque),
+            "phone_number" => Format::Plain(PlainFormat::Phone),
+            "did" => Format::Plain(PlainFormat::Did),
+            "uri" => Format::Plain(PlainFormat::Uri),
+            "jwt_id" => Format::Plain(PlainFormat::JwtId),
+            "saml_assertion_id" => Format::Plain(PlainFormat::Saml),
+            "aliases" => Format::Aliases,
+            "complex" => Format::Complex,
+            _ => Format::Plain(PlainFormat::Unknown),
+        }
+    }
+}

@@ -1,0 +1,53 @@
+-- What `fold` prints: a verdict for each line of the input, and then the session table.
+use Rattle.std.specs.Prelude.{ℕ, List, [], ◌∷◌, ◌++◌, ◌+◌, ◌==◌, Option, Some, None, length}
+use Rattle.std.specs.List.{slice_split}
+use Rattle.std.specs.Str.Lines.{lines, strip_carriage_return}
+use Rattle.sig_jws.specs.declared.key.Key.{Key}
+use Rattle.sig_set.specs.declared.trust.Issuer.{Issuer}
+use Rattle.sig_set.specs.declared.trust.Trust.{Trust}
+use Rattle.sig_set.specs.Journal.{answer_to, journal_by, distinct}
+use Rattle.sig_set.specs.Printed.{answer_text, table_text}
+use Rattle.sig_set.specs.Table.{fold_rows}
+
+-- one issuer with one key, which has no name
+abbrev pub trust_of : List ℕ → List ℕ → List ℕ → Trust
+trust_of iss aud key = record { audience = aud; issuers = record { iss = iss; keys = record { kid = None; bytes = key } ∷ [] } ∷ [] }
+
+-- what is printed for a line, over the journal so far; an empty line is passed over
+abbrev pub line_text : Trust → List ℕ → ℕ → List (List ℕ) → List ℕ → List ℕ
+line_text trust me number journal [] = []
+line_text trust me number journal (b ∷ line) = answer_text number (answer_to trust [] (Some me) None journal (b ∷ line))
+
+-- the journal behind a line
+abbrev pub journal_after : Trust → List ℕ → List (List ℕ) → List ℕ → List (List ℕ)
+journal_after trust me journal [] = journal
+journal_after trust me journal (b ∷ line) = journal_by (answer_to trust [] (Some me) None journal (b ∷ line)) journal (b ∷ line)
+
+-- what is printed for lines, numbered from here on; empty ones are counted too
+abbrev pub lines_text : Trust → List ℕ → ℕ → List (List ℕ) → List (List ℕ) → List ℕ
+lines_text trust me number journal [] = []
+lines_text trust me number journal (line ∷ more) =
+    line_text trust me number journal line ++ lines_text trust me (number + 1) (journal_after trust me journal line) more
+
+-- the journal behind lines
+abbrev pub journal_of : Trust → List ℕ → List (List ℕ) → List (List ℕ) → List (List ℕ)
+journal_of trust me journal [] = journal
+journal_of trust me journal (line ∷ more) = journal_of trust me (journal_after trust me journal line) more
+
+-- the table of a journal's distinct texts, and how many there are
+abbrev pub journal_text : List (List ℕ) → List ℕ
+journal_text journal = table_text (fold_rows [] (distinct [] journal)) (length (distinct [] journal))
+
+-- the whole text: the lines' verdicts, and then the table
+abbrev pub fold_text : Trust → List ℕ → List ℕ → List ℕ
+fold_text trust me input = lines_text trust me 1 [] (lines input) ++ journal_text (journal_of trust me [] (lines input))
+
+-- the parts that end, but for the last one, each without the one CR at its end
+abbrev pub ended_parts : List (List ℕ) → List (List ℕ)
+ended_parts [] = []
+ended_parts (part ∷ []) = []
+ended_parts (part ∷ next ∷ more) = strip_carriage_return part ∷ ended_parts (next ∷ more)
+
+-- the lines of bytes that end with an LF
+abbrev pub whole_lines : List ℕ → List (List ℕ)
+whole_lines bytes = ended_parts (slice_split (λ b. b == 10) bytes)

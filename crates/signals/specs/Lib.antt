@@ -1,0 +1,4 @@
+pub mod Command
+pub mod Fold
+pub mod Ends
+pub mod Progress
