@@ -1,4 +1,4 @@
-ghost use Rattle.std.specs.Prelude.{◌≡◌, IfOk};
+ghost use Rattle.std.specs.Prelude.{◌≡◌, ◌↔◌, IfOk, IsTrue};
 ghost use Rattle.sig_caep.specs.Events.{type_of};
 
 use crate::{CaepType, Change, Compliance, Direction};
@@ -94,11 +94,7 @@ impl CaepKind {
                 namespace,
                 current_level,
                 change_direction,
-            } => CaepKind::AssuranceLevelChange {
-                namespace: copy_optional(alloc, namespace)?,
-                current_level: current_level.copy(alloc)?,
-                change_direction: *change_direction,
-            },
+            } => copy_level_change(alloc, namespace, current_level, *change_direction)?,
             CaepKind::DeviceComplianceChange {
                 previous_status,
                 current_status,
@@ -111,18 +107,45 @@ impl CaepKind {
                 amr,
                 ext_id,
                 fp_ua,
-            } => CaepKind::SessionEstablished {
-                acr: copy_optional(alloc, acr)?,
-                amr: copy_optional(alloc, amr)?,
-                ext_id: copy_optional(alloc, ext_id)?,
-                fp_ua: copy_optional(alloc, fp_ua)?,
-            },
+            } => copy_established(alloc, acr, amr, ext_id, fp_ua)?,
             CaepKind::SessionPresented { ext_id, fp_ua } => CaepKind::SessionPresented {
                 ext_id: copy_optional(alloc, ext_id)?,
                 fp_ua: copy_optional(alloc, fp_ua)?,
             },
         })
     }
+}
+
+fn copy_level_change(
+    alloc: Global,
+    namespace: &Option<Text>,
+    current_level: &Text,
+    change_direction: Option<Direction>,
+) -> Result<CaepKind, Memory>
+    ensures { IfOk result (λ c. c ≡ CaepKind.AssuranceLevelChange namespace.now current_level.now change_direction) }
+{
+    Ok(CaepKind::AssuranceLevelChange {
+        namespace: copy_optional(alloc, namespace)?,
+        current_level: current_level.copy(alloc)?,
+        change_direction,
+    })
+}
+
+fn copy_established(
+    alloc: Global,
+    acr: &Option<Text>,
+    amr: &Option<Text>,
+    ext_id: &Option<Text>,
+    fp_ua: &Option<Text>,
+) -> Result<CaepKind, Memory>
+    ensures { IfOk result (λ c. c ≡ CaepKind.SessionEstablished acr.now amr.now ext_id.now fp_ua.now) }
+{
+    Ok(CaepKind::SessionEstablished {
+        acr: copy_optional(alloc, acr)?,
+        amr: copy_optional(alloc, amr)?,
+        ext_id: copy_optional(alloc, ext_id)?,
+        fp_ua: copy_optional(alloc, fp_ua)?,
+    })
 }
 
 impl Copied for CaepKind {
@@ -133,68 +156,118 @@ impl Copied for CaepKind {
 
 impl Same for CaepKind {
     fn same(&self, other: &CaepKind) -> bool {
-        match (self, other) {
-            (CaepKind::SessionRevoked, CaepKind::SessionRevoked) => true,
-            (
-                CaepKind::TokenClaimsChange { claims: a },
-                CaepKind::TokenClaimsChange { claims: b },
-            ) => a.same(b),
-            (
-                CaepKind::CredentialChange {
-                    credential_type: a,
-                    change_type: b,
-                },
-                CaepKind::CredentialChange {
-                    credential_type: c,
-                    change_type: d,
-                },
-            ) => a.same(c) && b.same(d),
-            (
-                CaepKind::AssuranceLevelChange {
-                    namespace: a,
-                    current_level: b,
-                    change_direction: c,
-                },
-                CaepKind::AssuranceLevelChange {
-                    namespace: d,
-                    current_level: e,
-                    change_direction: f,
-                },
-            ) => a.same(d) && b.same(e) && c.same(f),
-            (
-                CaepKind::DeviceComplianceChange {
-                    previous_status: a,
-                    current_status: b,
-                },
-                CaepKind::DeviceComplianceChange {
-                    previous_status: c,
-                    current_status: d,
-                },
-            ) => a.same(c) && b.same(d),
-            (
-                CaepKind::SessionEstablished {
-                    acr: a,
-                    amr: b,
-                    ext_id: c,
-                    fp_ua: d,
-                },
-                CaepKind::SessionEstablished {
-                    acr: e,
-                    amr: f,
-                    ext_id: g,
-                    fp_ua: h,
-                },
-            ) => a.same(e) && b.same(f) && c.same(g) && d.same(h),
-            (
-                CaepKind::SessionPresented {
-                    ext_id: a,
-                    fp_ua: b,
-                },
-                CaepKind::SessionPresented {
-                    ext_id: c,
-                    fp_ua: d,
-                },
-            ) => a.same(c) && b.same(d),
+        match self {
+            CaepKind::SessionRevoked => matches!(other, CaepKind::SessionRevoked),
+            CaepKind::TokenClaimsChange { claims } => other.is_token_claims_change(claims),
+            CaepKind::CredentialChange {
+                credential_type,
+                change_type,
+            } => other.is_credential_change(credential_type, *change_type),
+            CaepKind::AssuranceLevelChange {
+                namespace,
+                current_level,
+                change_direction,
+            } => other.is_assurance_level_change(namespace, current_level, *change_direction),
+            CaepKind::DeviceComplianceChange {
+                previous_status,
+                current_status,
+            } => other.is_device_compliance_change(*previous_status, *current_status),
+            CaepKind::SessionEstablished {
+                acr,
+                amr,
+                ext_id,
+                fp_ua,
+            } => other.is_session_established(acr, amr, ext_id, fp_ua),
+            CaepKind::SessionPresented { ext_id, fp_ua } => other.is_session_presented(
+                ext_id, fp_ua,
+            ),
+        }
+    }
+}
+
+// Whether the event is of this type and has these members.
+impl CaepKind {
+    fn is_token_claims_change(&self, new: &Text) -> bool
+        ensures { IsTrue result ↔ (self.now ≡ CaepKind.TokenClaimsChange new.now) }
+    {
+        matches!(self, CaepKind::TokenClaimsChange { claims } if claims.same(new))
+    }
+
+    fn is_credential_change(&self, credential: &Text, change: Change) -> bool
+        ensures { IsTrue result ↔ (self.now ≡ CaepKind.CredentialChange credential.now change) }
+    {
+        match self {
+            CaepKind::CredentialChange {
+                credential_type,
+                change_type,
+            } => credential_type.same(credential) && change_type.same(&change),
+            _ => false,
+        }
+    }
+
+    fn is_assurance_level_change(
+        &self,
+        names: &Option<Text>,
+        level: &Text,
+        direction: Option<Direction>,
+    ) -> bool
+        ensures { IsTrue result ↔ (self.now ≡ CaepKind.AssuranceLevelChange names.now level.now direction) }
+    {
+        match self {
+            CaepKind::AssuranceLevelChange {
+                namespace,
+                current_level,
+                change_direction,
+            } => {
+                namespace.same(names)
+                    && current_level.same(level)
+                    && change_direction.same(&direction)
+            }
+            _ => false,
+        }
+    }
+
+    fn is_device_compliance_change(&self, before: Compliance, after: Compliance) -> bool
+        ensures { IsTrue result ↔ (self.now ≡ CaepKind.DeviceComplianceChange before after) }
+    {
+        match self {
+            CaepKind::DeviceComplianceChange {
+                previous_status,
+                current_status,
+            } => previous_status.same(&before) && current_status.same(&after),
+            _ => false,
+        }
+    }
+
+    fn is_session_established(
+        &self,
+        class: &Option<Text>,
+        methods: &Option<Text>,
+        session: &Option<Text>,
+        agent: &Option<Text>,
+    ) -> bool
+        ensures { IsTrue result ↔ (self.now ≡ CaepKind.SessionEstablished class.now methods.now session.now agent.now) }
+    {
+        match self {
+            CaepKind::SessionEstablished {
+                acr,
+                amr,
+                ext_id,
+                fp_ua,
+            } => {
+                acr.same(class) && amr.same(methods) && ext_id.same(session) && fp_ua.same(agent)
+            }
+            _ => false,
+        }
+    }
+
+    fn is_session_presented(&self, session: &Option<Text>, agent: &Option<Text>) -> bool
+        ensures { IsTrue result ↔ (self.now ≡ CaepKind.SessionPresented session.now agent.now) }
+    {
+        match self {
+            CaepKind::SessionPresented { ext_id, fp_ua } => {
+                ext_id.same(session) && fp_ua.same(agent)
+            }
             _ => false,
         }
     }

@@ -4,9 +4,10 @@ ghost use Rattle.sig_json.specs.Payloads.{put_all};
 ghost use Rattle.sig_caep.specs.Events.{kept_of, type_of};
 ghost use Rattle.sig_caep.specs.Table.{caep_table};
 
-use crate::{CaepKind, Change, Compliance, Direction};
+use crate::{CaepKind, CaepType, Change, Compliance, Direction};
 use sig_json::{
-    AnyText, FilledObject, Memory, OneOf, Payload, TextOrTexts, put_member, put_optional_member,
+    AnyText, FilledObject, Memory, OneOf, Payload, Text, TextOrTexts, put_member,
+    put_optional_member,
 };
 use std::alloc::Global;
 
@@ -32,28 +33,11 @@ impl CaepKind {
                 namespace,
                 current_level,
                 change_direction,
-            } => {
-                put_optional_member::<AnyText>(alloc, payload, "namespace", namespace)?;
-                put_member::<AnyText>(alloc, payload, "current_level", current_level)?;
-                put_optional_member::<OneOf<Direction>>(
-                    alloc,
-                    payload,
-                    "change_direction",
-                    change_direction,
-                )
-            }
+            } => put_level_change(alloc, payload, namespace, current_level, change_direction),
             CaepKind::DeviceComplianceChange {
                 previous_status,
                 current_status,
-            } => {
-                put_member::<OneOf<Compliance>>(
-                    alloc,
-                    payload,
-                    "previous_status",
-                    previous_status,
-                )?;
-                put_member::<OneOf<Compliance>>(alloc, payload, "current_status", current_status)
-            }
+            } => put_compliance_change(alloc, payload, previous_status, current_status),
             CaepKind::SessionEstablished {
                 acr,
                 amr,
@@ -62,13 +46,52 @@ impl CaepKind {
             } => {
                 put_optional_member::<AnyText>(alloc, payload, "acr", acr)?;
                 put_optional_member::<TextOrTexts>(alloc, payload, "amr", amr)?;
-                put_optional_member::<AnyText>(alloc, payload, "ext_id", ext_id)?;
-                put_optional_member::<AnyText>(alloc, payload, "fp_ua", fp_ua)
+                put_presented(alloc, payload, ext_id, fp_ua)
             }
-            CaepKind::SessionPresented { ext_id, fp_ua } => {
-                put_optional_member::<AnyText>(alloc, payload, "ext_id", ext_id)?;
-                put_optional_member::<AnyText>(alloc, payload, "fp_ua", fp_ua)
-            }
+            CaepKind::SessionPresented { ext_id, fp_ua } => put_presented(
+                alloc, payload, ext_id, fp_ua,
+            ),
         }
     }
+}
+
+fn put_level_change(
+    alloc: Global,
+    payload: &mut Payload,
+    namespace: &Option<Text>,
+    current_level: &Text,
+    change_direction: &Option<Direction>,
+) -> Result<(), Memory>
+    ensures { IfOk result (λ _. members_view payload.new.entries
+        ≡ put_all (caep_table CaepType.AssuranceLevelChange).rules (kept_of (CaepKind.AssuranceLevelChange namespace.now current_level.now change_direction.now)) (members_view payload.old.entries)) }
+{
+    put_optional_member::<AnyText>(alloc, payload, "namespace", namespace)?;
+    put_member::<AnyText>(alloc, payload, "current_level", current_level)?;
+    put_optional_member::<OneOf<Direction>>(alloc, payload, "change_direction", change_direction)
+}
+
+fn put_compliance_change(
+    alloc: Global,
+    payload: &mut Payload,
+    previous_status: &Compliance,
+    current_status: &Compliance,
+) -> Result<(), Memory>
+    ensures { IfOk result (λ _. members_view payload.new.entries
+        ≡ put_all (caep_table CaepType.DeviceComplianceChange).rules (kept_of (CaepKind.DeviceComplianceChange previous_status.now current_status.now)) (members_view payload.old.entries)) }
+{
+    put_member::<OneOf<Compliance>>(alloc, payload, "previous_status", previous_status)?;
+    put_member::<OneOf<Compliance>>(alloc, payload, "current_status", current_status)
+}
+
+fn put_presented(
+    alloc: Global,
+    payload: &mut Payload,
+    ext_id: &Option<Text>,
+    fp_ua: &Option<Text>,
+) -> Result<(), Memory>
+    ensures { IfOk result (λ _. members_view payload.new.entries
+        ≡ put_all (caep_table CaepType.SessionPresented).rules (kept_of (CaepKind.SessionPresented ext_id.now fp_ua.now)) (members_view payload.old.entries)) }
+{
+    put_optional_member::<AnyText>(alloc, payload, "ext_id", ext_id)?;
+    put_optional_member::<AnyText>(alloc, payload, "fp_ua", fp_ua)
 }

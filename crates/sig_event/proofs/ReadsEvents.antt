@@ -1,13 +1,13 @@
 -- An event is what a URI and a payload say of a subject exactly where it is read of them.
-use Rattle.std.proofs.Common.{◌≡◌, ◌↔◌, ◌||◌, ℕ, List, [], ◌∷◌, ◌++◌, map, Bool, true, false, not, if◌then◌else◌, Option, Some, None, option_map, refl, sym, ap, subst, ◌∙◌}
-use Rattle.std.specs.Prelude.{Result, Ok, Err, codes}
-use Rattle.serde_json.specs.Data.{Data, object}
-use Rattle.sig_json.specs.Checks.{Check, check, first_failing, decided, or_else, map_fault}
+use Rattle.std.proofs.Common.{◌≡◌, ℕ, List, [], ◌∷◌, ◌++◌, Bool, true, false, if◌then◌else◌, Option, Some, None, option_map, refl, sym, ap, subst, ◌∙◌}
+use Rattle.std.specs.Prelude.{Ok, codes}
+use Rattle.serde_json.specs.Data.{Data}
+use Rattle.sig_json.specs.Checks.{Check, check, first_failing, decided, or_else}
 use Rattle.sig_json.specs.Listed.{listed}
-use Rattle.sig_json.specs.Members.{IsObject, is_object, AllHave, payload_checks, Words}
+use Rattle.sig_json.specs.Members.{IsObject, is_object, AllHave, Words}
 use Rattle.sig_json.specs.declared.members.PayloadFault.{PayloadFault}
 use Rattle.sig_json.proofs.ReadsMember.{IsObject-is_object}
-use Rattle.sig_json.proofs.Shapes.{Shape, text_shape, listed_shape, listed-text, required_value, optional_value, required_has, optional_has, both_pass, pass_both, AllHave-passes, each_passes}
+use Rattle.sig_json.proofs.Shapes.{Shape, text_shape, listed_shape, listed-text, required_value, optional_value, required_has, optional_has, AllHave-passes, each_passes}
 use Rattle.sig_subject.specs.declared.subject.Subject.{Subject}
 use Rattle.sig_caep.specs.Table.{caep_table}
 use Rattle.sig_caep.specs.Events as caep
@@ -21,7 +21,7 @@ use Rattle.sig_risc.specs.declared.event.RiscEvent.{RiscEvent}
 use Rattle.sig_risc.specs.declared.event_type.RiscType.{RiscType}
 use Rattle.sig_risc.specs.declared.event_type.RiscType.TheVariants as risc_type
 use Rattle.sig_risc.proofs.ReadsRisc as risc_proofs
-use Rattle.sig_event.specs.Status.{status_text, statuses, status_in}
+use Rattle.sig_event.specs.Status.{status_text, statuses}
 use Rattle.sig_event.specs.Types.{caep_uri, risc_uri, ssf_uri, uri_of_type, event_types, type_of, fits_subject}
 use Rattle.sig_event.specs.Events.{state_rules, update_rules, EventIs, IsEvent, type_checks, event_by, known_checks, event_checks, event_in, event_of, ReadsEvents}
 use Rattle.sig_event.specs.declared.status.Status.{Status}

@@ -1,10 +1,7 @@
 -- The payload that is written of an event says that event.
-use Rattle.std.proofs.Common.{◌≡◌, ◌≤◌, ◌++◌, ℕ, List, [], ◌∷◌, Option, Some, option_map, refl, sym}
-use Rattle.std.specs.Prelude.{codes}
-use Rattle.serde_json.specs.Data.{Data, object, no_members, depth}
+use Rattle.std.proofs.Common.{◌≤◌, ℕ, List, [], ◌∷◌, Option, Some, option_map, refl}
+use Rattle.serde_json.specs.Data.{Data, depth}
 use Rattle.serde_json.specs.Read.{max_depth}
-use Rattle.serde_json.specs.Written.{compact_text}
-use Rattle.sig_json.specs.Json.{json_of}
 use Rattle.sig_json.specs.Members.{Words, Kept, IsObject}
 use Rattle.sig_json.proofs.PutMembers.{payload_has, have_proper}
 use Rattle.sig_json.proofs.Spelled.{InOrder, spelled_in_order, spelled_depth}
@@ -12,7 +9,7 @@ use Rattle.sig_subject.specs.declared.subject.Subject.{Subject}
 use Rattle.sig_caep.proofs.WrittenCaep.{caep_written}
 use Rattle.sig_risc.proofs.WrittenRisc.{risc_written}
 use Rattle.sig_event.specs.Status.{status_text}
-use Rattle.sig_event.specs.Events.{state_rules, update_rules, EventIs, IsEvent, payload_of, uri_of, IsProperEvent, ReadsWritten}
+use Rattle.sig_event.specs.Events.{state_rules, update_rules, EventIs, IsEvent, payload_of, uri_of, ReadsWritten}
 use Rattle.sig_event.specs.declared.event.Event.{Event}
 use Rattle.sig_event.specs.declared.event.Event.TheVariants as event
 use Rattle.sig_event.proofs.ReadsEvents.{reads_events}

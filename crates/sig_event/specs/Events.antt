@@ -4,14 +4,14 @@ use Rattle.serde_json.specs.Data.{Data, object, no_members}
 use Rattle.serde_json.specs.Written.{compact_text}
 use Rattle.sig_json.specs.Checks.{Check, check, decided, first_failing, map_fault}
 use Rattle.sig_json.specs.Json.{json_of, member_of}
-use Rattle.sig_json.specs.Members.{IsObject, is_object, Rule, AnyText, OneOf, required, optional, Kept, Words, AllHave, payload_checks, text_in, value_of}
+use Rattle.sig_json.specs.Members.{IsObject, is_object, Rule, AnyText, OneOf, required, optional, Words, AllHave, payload_checks, text_in, value_of}
 use Rattle.sig_json.specs.Payloads.{payload_by}
 use Rattle.sig_json.specs.declared.members.PayloadFault.{PayloadFault}
 use Rattle.sig_subject.specs.declared.subject.Subject.{Subject}
 use Rattle.sig_caep.specs.Events as caep
 use Rattle.sig_risc.specs.Events as risc
 use Rattle.sig_event.specs.Status.{status_text, statuses, status_in}
-use Rattle.sig_event.specs.Types.{caep_uri, risc_uri, ssf_uri, uri_of_type, type_of, is_about_identifier, fits_subject}
+use Rattle.sig_event.specs.Types.{caep_uri, risc_uri, ssf_uri, uri_of_type, type_of, fits_subject}
 use Rattle.sig_event.specs.declared.event.Event.{Event}
 use Rattle.sig_event.specs.declared.event.Event.TheVariants as event
 use Rattle.sig_event.specs.declared.event_fault.EventFault.{EventFault}

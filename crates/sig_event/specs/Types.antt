@@ -1,9 +1,7 @@
 -- The types of events and their URIs, and the subjects that they fit.
 use Rattle.std.specs.Prelude.{ℕ, List, [], ◌∷◌, ◌++◌, ◌||◌, codes, Bool, true, false, not, Option}
 use Rattle.sig_json.specs.Listed.{listed}
-use Rattle.sig_subject.specs.declared.plain.Plain.{Plain}
 use Rattle.sig_subject.specs.declared.plain.Plain.TheVariants.{Email, Phone}
-use Rattle.sig_subject.specs.declared.simple.Simple.{Simple}
 use Rattle.sig_subject.specs.declared.simple.Simple.TheVariants as simple
 use Rattle.sig_subject.specs.declared.subject.Subject.{Subject}
 use Rattle.sig_subject.specs.declared.subject.Subject.TheVariants as subject

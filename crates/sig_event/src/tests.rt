@@ -1,16 +1,33 @@
 //! Events by their URIs, and each refusal in its order.
 
 use crate::{Claims, Event, EventFault, EventType, PayloadFault, Status, from_json, to_json, uri};
-use sig_json::{Items, Listed, Same, Text, read};
+use sig_json::{Copied, Items, Listed, Same, Text, read};
 use sig_subject::{Plain, Simple, Subject};
 use std::alloc::Global;
 use std::test::Fail;
 
-const CAEP: &str = "https://schemas.openid.net/secevent/caep/event-type/";
+const SESSION_REVOKED: &str = "https://schemas.openid.net/secevent/caep/event-type/session-revoked";
 
-const RISC: &str = "https://schemas.openid.net/secevent/risc/event-type/";
+const TOKEN_CLAIMS_CHANGE: &str =
+    "https://schemas.openid.net/secevent/caep/event-type/token-claims-change";
 
-const SSF: &str = "https://schemas.openid.net/secevent/ssf/event-type/";
+const CREDENTIAL_CHANGE: &str =
+    "https://schemas.openid.net/secevent/caep/event-type/credential-change";
+
+const IDENTIFIER_CHANGED: &str =
+    "https://schemas.openid.net/secevent/risc/event-type/identifier-changed";
+
+const IDENTIFIER_RECYCLED: &str =
+    "https://schemas.openid.net/secevent/risc/event-type/identifier-recycled";
+
+const SESSIONS_REVOKED: &str =
+    "https://schemas.openid.net/secevent/risc/event-type/sessions-revoked";
+
+const VERIFICATION: &str = "https://schemas.openid.net/secevent/ssf/event-type/verification";
+
+const STREAM_UPDATED: &str = "https://schemas.openid.net/secevent/ssf/event-type/stream-updated";
+
+const UNKNOWN: &str = "https://example.com/x";
 
 const OPAQUE: &str = r#"{"format":"opaque","id":"s-77"}"#;
 
@@ -21,171 +38,44 @@ const PHONE: &str = r#"{"format":"phone_number","phone_number":"+12065550100"}"#
 const ALIASES: &str =
     r#"{"format":"aliases","identifiers":[{"format":"email","email":"a@example.com"}]}"#;
 
-// The front of a URI, its last part, a payload, a subject, and what is written of the event that is read. The figures
-// of Shared Signals Framework 1.0, sections 8.1.4 and 8.1.5, are among them.
-const READ: [(&str, &str, &str, &str, &str); 11] = [
-    (CAEP, "session-revoked", "{}", OPAQUE, "{}"),
-    (
-        CAEP,
-        "credential-change",
-        r#"{"credential_type":"password","change_type":"update"}"#,
-        OPAQUE,
-        r#"{"change_type":"update","credential_type":"password"}"#,
-    ),
-    (RISC, "sessions-revoked", r#"{"x":[1.5]}"#, ALIASES, "{}"),
-    (
-        RISC,
-        "identifier-changed",
-        r#"{"new-value":"b@example.com"}"#,
-        EMAIL,
-        r#"{"new-value":"b@example.com"}"#,
-    ),
-    (RISC, "identifier-changed", "{}", PHONE, "{}"),
-    (RISC, "identifier-recycled", "{}", PHONE, "{}"),
-    (
-        SSF,
-        "verification",
-        r#"{"state": "VGhpcyBpcyBhbiBleGFtcGxlIHN0YXRlIHZhbHVlLgo="}"#,
-        OPAQUE,
-        r#"{"state":"VGhpcyBpcyBhbiBleGFtcGxlIHN0YXRlIHZhbHVlLgo="}"#,
-    ),
-    (SSF, "verification", "{}", OPAQUE, "{}"),
-    (
-        SSF,
-        "stream-updated",
-        r#"{"status": "paused", "reason": "Internal error"}"#,
-        OPAQUE,
-        r#"{"reason":"Internal error","status":"paused"}"#,
-    ),
-    (
-        SSF,
-        "stream-updated",
-        r#"{"status": "disabled"}"#,
-        OPAQUE,
-        r#"{"status":"disabled"}"#,
-    ),
-    ("https://example.com/", "x", r#"{"n":1.5}"#, OPAQUE, "{}"),
-];
-
-// The front of a URI, its last part, a payload, a subject, the refusal, and the member that it names.
-const REFUSED: [(&str, &str, &str, &str, &str, &str); 15] = [
-    ("https://example.com/", "x", "[]", OPAQUE, "object", ""),
-    (CAEP, "session-revoked", "null", OPAQUE, "object", ""),
-    (
-        RISC,
-        "identifier-changed",
-        "\"new-value\"",
-        OPAQUE,
-        "object",
-        "",
-    ),
-    (
-        CAEP,
-        "credential-change",
-        r#"{"credential_type":"password"}"#,
-        OPAQUE,
-        "missing",
-        "change_type",
-    ),
-    (
-        CAEP,
-        "credential-change",
-        r#"{"credential_type":"password","change_type":"lost"}"#,
-        OPAQUE,
-        "value",
-        "change_type",
-    ),
-    (
-        CAEP,
-        "token-claims-change",
-        r#"{"claims":{"n":1.5}}"#,
-        OPAQUE,
-        "fraction",
-        "claims",
-    ),
-    (RISC, "identifier-changed", "{}", OPAQUE, "subject", ""),
-    (RISC, "identifier-recycled", "{}", ALIASES, "subject", ""),
-    (
-        RISC,
-        "identifier-changed",
-        r#"{"new-value":1}"#,
-        OPAQUE,
-        "kind",
-        "new-value",
-    ),
-    (
-        RISC,
-        "identifier-changed",
-        r#"{"new-value":1}"#,
-        EMAIL,
-        "kind",
-        "new-value",
-    ),
-    (
-        SSF,
-        "verification",
-        r#"{"state":7}"#,
-        OPAQUE,
-        "kind",
-        "state",
-    ),
-    (
-        SSF,
-        "stream-updated",
-        r#"{"reason":7}"#,
-        OPAQUE,
-        "missing",
-        "status",
-    ),
-    (
-        SSF,
-        "stream-updated",
-        r#"{"status":7,"reason":7}"#,
-        OPAQUE,
-        "kind",
-        "status",
-    ),
-    (
-        SSF,
-        "stream-updated",
-        r#"{"status":"Enabled"}"#,
-        OPAQUE,
-        "value",
-        "status",
-    ),
-    (
-        SSF,
-        "stream-updated",
-        r#"{"status":"enabled","reason":7}"#,
-        OPAQUE,
-        "kind",
-        "reason",
-    ),
-];
-
-fn uri_from(alloc: Global, front: &str, last: &str) -> Result<String, Fail> {
-    Ok(format!(in alloc; "{front}{last}")?)
-}
-
-fn subject_in(alloc: Global, text: &str) -> Result<Subject, Fail> {
-    let value = read(alloc, text.as_bytes())?;
-    Ok(sig_subject::from_json(alloc, &value)?)
-}
-
 fn answer(
     alloc: Global,
     name: &str,
     payload: &str,
     about: &str,
 ) -> Result<Result<Event, EventFault>, Fail> {
-    let subject = subject_in(alloc, about)?;
+    let subject = read(alloc, about.as_bytes())?;
+    let subject = sig_subject::from_json(alloc, &subject)?;
     let value = read(alloc, payload.as_bytes())?;
     Ok(from_json(alloc, name, &value, &subject))
 }
 
-fn written(alloc: Global, event: &Event) -> Result<String, Fail> {
-    let value = to_json(alloc, event)?;
-    Ok(value.to_string(alloc)?)
+fn event_in(alloc: Global, name: &str, payload: &str, about: &str) -> Result<Event, Fail> {
+    Ok(answer(alloc, name, payload, about)??)
+}
+
+fn has_uri(alloc: Global, event: &Event, name: &str) -> Result<bool, Fail> {
+    let found = uri(alloc, event)?;
+    Ok(found.as_str() == name)
+}
+
+fn has_text(alloc: Global, event: &Event, text: &str) -> Result<bool, Fail> {
+    let payload = to_json(alloc, event)?;
+    let written = payload.to_string(alloc)?;
+    Ok(written.as_str() == text)
+}
+
+// Whether the event is read, has this URI and this text, and is read of its text again.
+fn is_written(
+    alloc: Global,
+    name: &str,
+    payload: &str,
+    about: &str,
+    text: &str,
+) -> Result<bool, Fail> {
+    let event = event_in(alloc, name, payload, about)?;
+    let again = event_in(alloc, name, text, about)?;
+    Ok(event.same(&again) && has_uri(alloc, &event, name)? && has_text(alloc, &event, text)?)
 }
 
 fn refusal(fault: &EventFault) -> (&'static str, &str) {
@@ -200,33 +90,228 @@ fn refusal(fault: &EventFault) -> (&'static str, &str) {
     }
 }
 
+// Whether the event is refused by this fault, which names this member and is copied.
+fn is_refused(
+    alloc: Global,
+    name: &str,
+    payload: &str,
+    about: &str,
+    fault: &str,
+    member: &str,
+) -> Result<bool, Fail> {
+    let refused = answer(alloc, name, payload, about)?
+        .err()
+        .ok_or("a refusal")?;
+    let copy = refused.copy(alloc)?;
+    let (kind, place) = refusal(&refused);
+    Ok(kind == fault && place == member && refused == copy)
+}
+
 #[test]
-fn an_event_is_written_as_it_was_read(rt: HostRuntime) -> Result<(), Fail> {
+fn events_of_caep_are_written_as_read(rt: HostRuntime) -> Result<(), Fail> {
     let alloc = rt.alloc();
-    for (front, last, payload, about, expected) in READ {
-        let name = uri_from(alloc, front, last)?;
-        let event = answer(alloc, name.as_str(), payload, about)??;
-        let text = written(alloc, &event)?;
-        assert_eq!(rt; text.as_str(), expected, "{name} {payload}");
-        assert_eq!(rt; uri(alloc, &event)?.as_str(), name.as_str());
-        let again = answer(alloc, name.as_str(), text.as_str(), about)??;
-        assert!(rt; event.same(&again), "{name} {payload}");
-    }
+    assert!(rt; is_written(alloc, SESSION_REVOKED, "{}", OPAQUE, "{}")?);
+    assert!(rt;
+        is_written(
+            alloc,
+            CREDENTIAL_CHANGE,
+            r#"{"credential_type":"password","change_type":"update"}"#,
+            OPAQUE,
+            r#"{"change_type":"update","credential_type":"password"}"#
+        )?
+    );
+    Ok(())
+}
+
+#[test]
+fn events_of_risc_are_written_as_read(rt: HostRuntime) -> Result<(), Fail> {
+    let alloc = rt.alloc();
+    assert!(rt; is_written(alloc, SESSIONS_REVOKED, r#"{"x":[1.5]}"#, ALIASES, "{}")?);
+    assert!(rt;
+        is_written(
+            alloc,
+            IDENTIFIER_CHANGED,
+            r#"{"new-value":"b@example.com"}"#,
+            EMAIL,
+            r#"{"new-value":"b@example.com"}"#
+        )?
+    );
+    assert!(rt; is_written(alloc, IDENTIFIER_CHANGED, "{}", PHONE, "{}")?);
+    assert!(rt; is_written(alloc, IDENTIFIER_RECYCLED, "{}", PHONE, "{}")?);
+    Ok(())
+}
+
+// The figures of Shared Signals Framework 1.0, sections 8.1.4 and 8.1.5, are among them.
+#[test]
+fn events_of_a_stream_are_written_as_read(rt: HostRuntime) -> Result<(), Fail> {
+    let alloc = rt.alloc();
+    assert!(rt;
+        is_written(
+            alloc,
+            VERIFICATION,
+            r#"{"state": "VGhpcyBpcyBhbiBleGFtcGxlIHN0YXRlIHZhbHVlLgo="}"#,
+            OPAQUE,
+            r#"{"state":"VGhpcyBpcyBhbiBleGFtcGxlIHN0YXRlIHZhbHVlLgo="}"#
+        )?
+    );
+    assert!(rt; is_written(alloc, VERIFICATION, "{}", OPAQUE, "{}")?);
+    assert!(rt;
+        is_written(
+            alloc,
+            STREAM_UPDATED,
+            r#"{"status": "paused", "reason": "Internal error"}"#,
+            OPAQUE,
+            r#"{"reason":"Internal error","status":"paused"}"#
+        )?
+    );
+    assert!(rt;
+        is_written(
+            alloc,
+            STREAM_UPDATED,
+            r#"{"status": "disabled"}"#,
+            OPAQUE,
+            r#"{"status":"disabled"}"#
+        )?
+    );
+    assert!(rt; is_written(alloc, UNKNOWN, r#"{"n":1.5}"#, OPAQUE, "{}")?);
+    Ok(())
+}
+
+#[test]
+fn a_payload_has_to_be_an_object(rt: HostRuntime) -> Result<(), Fail> {
+    let alloc = rt.alloc();
+    assert!(rt; is_refused(alloc, UNKNOWN, "[]", OPAQUE, "object", "")?);
+    assert!(rt; is_refused(alloc, SESSION_REVOKED, "null", OPAQUE, "object", "")?);
+    assert!(rt;
+        is_refused(
+            alloc,
+            IDENTIFIER_CHANGED,
+            r#""new-value""#,
+            OPAQUE,
+            "object",
+            ""
+        )?
+    );
+    Ok(())
+}
+
+#[test]
+fn events_of_caep_are_refused_by_their_payload(rt: HostRuntime) -> Result<(), Fail> {
+    let alloc = rt.alloc();
+    assert!(rt;
+        is_refused(
+            alloc,
+            CREDENTIAL_CHANGE,
+            r#"{"credential_type":"password"}"#,
+            OPAQUE,
+            "missing",
+            "change_type"
+        )?
+    );
+    assert!(rt;
+        is_refused(
+            alloc,
+            CREDENTIAL_CHANGE,
+            r#"{"credential_type":"password","change_type":"lost"}"#,
+            OPAQUE,
+            "value",
+            "change_type"
+        )?
+    );
+    assert!(rt;
+        is_refused(
+            alloc,
+            TOKEN_CLAIMS_CHANGE,
+            r#"{"claims":{"n":1.5}}"#,
+            OPAQUE,
+            "fraction",
+            "claims"
+        )?
+    );
     Ok(())
 }
 
 #[test]
 fn the_payload_is_refused_before_the_subject(rt: HostRuntime) -> Result<(), Fail> {
     let alloc = rt.alloc();
-    for (front, last, payload, about, fault, member) in REFUSED {
-        let name = uri_from(alloc, front, last)?;
-        let refused = answer(alloc, name.as_str(), payload, about)?
-            .err()
-            .ok_or("a refusal")?;
-        let (kind, place) = refusal(&refused);
-        assert_eq!(rt; kind, fault, "{name} {payload}");
-        assert_eq!(rt; place, member, "{name} {payload}");
-    }
+    assert!(rt; is_refused(alloc, IDENTIFIER_CHANGED, "{}", OPAQUE, "subject", "")?);
+    assert!(rt; is_refused(alloc, IDENTIFIER_RECYCLED, "{}", ALIASES, "subject", "")?);
+    assert!(rt;
+        is_refused(
+            alloc,
+            IDENTIFIER_CHANGED,
+            r#"{"new-value":1}"#,
+            OPAQUE,
+            "kind",
+            "new-value"
+        )?
+    );
+    assert!(rt;
+        is_refused(
+            alloc,
+            IDENTIFIER_CHANGED,
+            r#"{"new-value":1}"#,
+            EMAIL,
+            "kind",
+            "new-value"
+        )?
+    );
+    Ok(())
+}
+
+#[test]
+fn events_of_a_stream_are_refused_by_their_payload(rt: HostRuntime) -> Result<(), Fail> {
+    let alloc = rt.alloc();
+    assert!(rt;
+        is_refused(
+            alloc,
+            VERIFICATION,
+            r#"{"state":7}"#,
+            OPAQUE,
+            "kind",
+            "state"
+        )?
+    );
+    assert!(rt;
+        is_refused(
+            alloc,
+            STREAM_UPDATED,
+            r#"{"reason":7}"#,
+            OPAQUE,
+            "missing",
+            "status"
+        )?
+    );
+    assert!(rt;
+        is_refused(
+            alloc,
+            STREAM_UPDATED,
+            r#"{"status":7,"reason":7}"#,
+            OPAQUE,
+            "kind",
+            "status"
+        )?
+    );
+    assert!(rt;
+        is_refused(
+            alloc,
+            STREAM_UPDATED,
+            r#"{"status":"Enabled"}"#,
+            OPAQUE,
+            "value",
+            "status"
+        )?
+    );
+    assert!(rt;
+        is_refused(
+            alloc,
+            STREAM_UPDATED,
+            r#"{"status":"enabled","reason":7}"#,
+            OPAQUE,
+            "kind",
+            "reason"
+        )?
+    );
     Ok(())
 }
 
@@ -266,7 +351,7 @@ fn a_copy_of_claims_is_the_same(rt: HostRuntime) -> Result<(), Fail> {
         })),
         events: Items::of(events),
     };
-    let copy = claims.copy(alloc)?;
+    let copy = claims.copied(alloc)?;
     assert!(rt; claims == copy);
     assert!(rt; claims.same(&copy));
     Ok(())
