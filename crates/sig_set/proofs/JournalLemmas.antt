@@ -1,13 +1,10 @@
 -- How a journal grows by one text.
-use Rattle.std.proofs.Common.{◌≡◌, ◌∙◌, ap, sym, subst, ℕ, List, [], ◌∷◌, ◌++◌, map, Bool, true, false, Option, Some, None, Result, Ok, Err, if◌then◌else◌, refl, inl, inr, append_assoc, append-nil}
+use Rattle.std.proofs.Common.{◌≡◌, ◌∙◌, ap, sym, ℕ, List, [], ◌∷◌, ◌++◌, true, false, Option, Some, None, Ok, Err, if◌then◌else◌, refl, inl, inr, append_assoc, append-nil}
 use Rattle.std.specs.Prelude.{◌⊎◌}
-use Rattle.sig_json.specs.Answers.{Answers}
 use Rattle.sig_set.specs.declared.claims.Claims.{Claims}
-use Rattle.sig_set.specs.declared.heard.Heard.{Heard}
 use Rattle.sig_set.specs.declared.heard.Heard.TheVariants.{Accepted, Seen, NotTaken}
 use Rattle.sig_set.specs.declared.refusal.Code.{Code}
 use Rattle.sig_set.specs.declared.refusal.Spot.{Spot}
-use Rattle.sig_set.specs.declared.refusal.Refusal.{Refusal}
 use Rattle.sig_set.specs.declared.refusal.Refusal.TheVariants.{Coded, Memory}
 use Rattle.sig_set.specs.Checks.{Fault}
 use Rattle.sig_set.specs.FirstForm.{claims_of}

@@ -1,5 +1,5 @@
 -- What the two checks of a compact form come to, by their tests.
-use Rattle.std.proofs.Common.{◌≡◌, ◌∙◌, ap, sym, List, [], ◌∷◌, Bool, true, false, Option, Some, None, Result, Ok, Err, if◌then◌else◌, refl}
+use Rattle.std.proofs.Common.{◌≡◌, List, [], ◌∷◌, Bool, true, false, Some, None, Ok, Err, if◌then◌else◌, refl}
 use Rattle.sig_json.specs.Checks.{Check, first_failing}
 use Rattle.sig_set.specs.declared.claims.Claims.{Claims}
 use Rattle.sig_set.specs.declared.refusal.Code.TheVariants.{InvalidRequest, InvalidKey}

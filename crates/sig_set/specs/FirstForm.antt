@@ -1,12 +1,11 @@
 -- The one form of tokens that is taken so far (RFC 8417, section 2): one session-revoked event on one opaque subject.
-use Rattle.std.specs.Prelude.{ℕ, List, [], ◌∷◌, Bool, true, false, not, ◌&&◌, ◌||◌, ◌≤◌, ℤ, pos, negsuc, Option, Some, None, is_some, option_and_then, option_map, unwrap_or, codes, bytes_eq, length, nat_lt, nat_le, if◌then◌else◌}
+use Rattle.std.specs.Prelude.{ℕ, List, [], ◌∷◌, Bool, true, false, not, ◌&&◌, ◌||◌, ℤ, pos, negsuc, Option, Some, None, is_some, option_and_then, unwrap_or, codes, bytes_eq, length, nat_lt, nat_le, if◌then◌else◌}
 use Rattle.std.specs.Result.{result_ok}
 use Rattle.std.specs.List.{list_any}
 use Rattle.serde_json.specs.Data.{Data, null, boolean, number, string, array, object, Members, no_members, member}
-use Rattle.sig_json.specs.Json.{json_of, member_of, text_member, whole_member, object_member}
+use Rattle.sig_json.specs.Json.{json_of, member_of, text_member, whole_member}
 use Rattle.sig_json.specs.declared.limits.TheConstants.{LAST_NUMBER}
 use Rattle.sig_jws.specs.Compact.{split_of}
-use Rattle.sig_jws.specs.Hmac.{hmac_of}
 use Rattle.sig_jws.specs.declared.compact.Compact.{Compact}
 use Rattle.sig_set.specs.declared.claims.Claims.{Claims}
 

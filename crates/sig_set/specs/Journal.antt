@@ -2,8 +2,6 @@
 use Rattle.std.specs.Prelude.{ℕ, List, [], ◌∷◌, ◌++◌, Option, map, if◌then◌else◌}
 use Rattle.sig_set.specs.declared.claims.Claims.{Claims}
 use Rattle.sig_set.specs.declared.trust.Trust.{Trust}
-use Rattle.sig_set.specs.declared.refusal.Code.{Code}
-use Rattle.sig_set.specs.declared.refusal.Spot.{Spot}
 use Rattle.sig_set.specs.declared.heard.Heard.{Heard}
 use Rattle.sig_set.specs.declared.heard.Heard.TheVariants.{Accepted, Seen, NotTaken}
 use Rattle.sig_set.specs.FirstForm.{claims_of}

@@ -7,3 +7,5 @@ pub mod Table
 pub mod Printed
 pub mod Spelled
 pub mod Receiver
+pub mod Written
+pub mod Laws

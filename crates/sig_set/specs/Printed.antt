@@ -1,6 +1,6 @@
 -- What is printed of answers and of the session table.
 use Rattle.std.specs.Prelude.{ℕ, List, [], ◌∷◌, ◌++◌, ◌+◌, codes, decimal, length}
-use Rattle.serde_json.specs.Data.{Data, string, object, Members, no_members, member}
+use Rattle.serde_json.specs.Data.{Data, string, object, no_members, member}
 use Rattle.serde_json.specs.Written.{compact_text}
 use Rattle.sig_set.specs.Spelled.{code_text, spot_text}
 use Rattle.sig_set.specs.declared.heard.Heard.{Heard}

@@ -14,7 +14,9 @@ use sig_json::{JsonFault, Memory, Text, Value, present, read, text_of, whole_of}
 use sig_jws::{Compact, Key};
 use std::alloc::Global;
 
-const SESSION_REVOKED: &str = "https://schemas.openid.net/secevent/caep/event-type/session-revoked";
+/// The URI of the session-revoked event type (CAEP 1.0, section 3.1).
+pub const SESSION_REVOKED: &str =
+    "https://schemas.openid.net/secevent/caep/event-type/session-revoked";
 
 /// The claims of a token in compact form, where it has the form for the issuer and key that are trusted, and for this
 /// principal. None exactly where it hasn't.
@@ -145,7 +147,8 @@ fn is_for(iss: &Text, principal: Option<&Text>) -> bool
     }
 }
 
-fn fits_subject(payload: &Value) -> bool
+/// Whether an object has in `sub_id` an opaque subject whose identifier isn't empty (RFC 9493, section 3.2.4).
+pub fn fits_subject(payload: &Value) -> bool
     ensures { result ≡ spec.where_there spec.fits_subject (member_of (codes "sub_id") (view payload.now)) }
 {
     match payload.get("sub_id") {
@@ -158,7 +161,9 @@ fn fits_subject(payload: &Value) -> bool
     }
 }
 
-fn fits_events(payload: &Value) -> bool
+/// Whether an object has in `events` the one event that is taken so far, session-revoked with nothing in it (CAEP 1.0,
+/// section 3.1).
+pub fn fits_events(payload: &Value) -> bool
     ensures { result ≡ spec.where_there spec.fits_events (member_of (codes "events") (view payload.now)) }
 {
     match payload.get("events") {
@@ -260,7 +265,8 @@ fn claims_in(alloc: Global, payload: &Value) -> Result<Claims, Memory>
     })
 }
 
-fn subject_in(alloc: Global, payload: &Value) -> Result<Text, Memory>
+/// The identifier of the opaque subject in `sub_id`, and an empty text where there is none.
+pub fn subject_in(alloc: Global, payload: &Value) -> Result<Text, Memory>
     ensures { IfOk result (λ text. text ≡ unwrap_or (option_and_then (text_member (codes "id")) (member_of (codes "sub_id") (view payload.now))) []) }
 {
     match payload.get("sub_id") {

@@ -59,7 +59,8 @@ fn subject_json(alloc: Global, id: &str) -> Result<Text, Memory>
     Ok(Text::from_string(value.to_string(alloc)?))
 }
 
-fn subject_value(alloc: Global, id: &str) -> Result<Value, Memory>
+// The object of an opaque subject.
+pub(crate) fn subject_value(alloc: Global, id: &str) -> Result<Value, Memory>
     ensures { IfOk result (λ value. view value ≡ subject_data id.now) }
 {
     Ok(json!(in alloc; {"format": "opaque", "id": id})?)

@@ -1,6 +1,7 @@
 //! Tokens of every verdict, and what a receiver keeps of them.
 
 mod tokens;
+mod written;
 
 use crate::{
     Code, Heard, Issuer, Receiver, Spot, Trust, answer_line, counts_line, judge, row_line,
@@ -14,16 +15,20 @@ const KEY: &[u8] = b"0123456789abcdef0123456789abcdef";
 
 const ISSUER: &str = "https://idp.example";
 
-fn trust(alloc: Global, kid: Option<&str>) -> Result<Trust, Memory> {
+fn key(alloc: Global, kid: Option<&str>) -> Result<Key, Memory> {
     let kid = match kid {
         Some(kid) => Some(Text::of(alloc, kid)?),
         None => None,
     };
-    let mut keys = Vec::new(alloc);
-    keys.push(Key {
+    Ok(Key {
         kid,
         bytes: Bytes::of(alloc, KEY)?,
-    })?;
+    })
+}
+
+fn trust(alloc: Global, kid: Option<&str>) -> Result<Trust, Memory> {
+    let mut keys = Vec::new(alloc);
+    keys.push(key(alloc, kid)?)?;
     let mut issuers = Vec::new(alloc);
     issuers.push(Issuer {
         iss: Text::of(alloc, ISSUER)?,

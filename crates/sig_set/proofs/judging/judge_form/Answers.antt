@@ -1,4 +1,4 @@
-use Rattle.std.proofs.Common.{◌≡◌, ◌∙◌, sym, Some, inr}
+use Rattle.std.proofs.Common.{◌∙◌, sym, inr}
 use Rattle.sig_set.proofs.JudgementLemmas.{of_another_form, signed_otherwise, signed_and_formed}
 use Rattle.sig_set.proofs.judging.judge_form.Goals as goal
 

@@ -1,4 +1,4 @@
-use Rattle.std.proofs.Common.{◌≡◌, ◌∙◌, ap, sym, ◌++◌, ◌∷◌, []}
+use Rattle.std.proofs.Common.{◌∙◌, ap, sym, ◌++◌, ◌∷◌, []}
 use Rattle.sig_set.specs.Journal.{pair_of}
 use Rattle.sig_set.specs.Pair.{has_pair}
 use Rattle.sig_set.specs.Receiver.{Received}

@@ -1,0 +1,153 @@
+//! Tokens that are written.
+
+ghost use Rattle.std.specs.Prelude.{◌≡◌, IfOk, None, Some, false};
+ghost use Rattle.serde_json.specs.Data.{put};
+ghost use Rattle.serde_json.specs.View.{view, members_view};
+ghost use Rattle.serde_json.specs.Written.{compact_text, has_float};
+ghost use Rattle.sig_json.specs.Answers.{Answers};
+ghost use Rattle.sig_set.specs.Written.{events_data, header_of, header_text_of, payload_of, payload_text_of, token_text, written_of};
+
+use crate::Claims;
+use crate::form::SESSION_REVOKED;
+use crate::printing::subject_value;
+use serde_json::{Map, json};
+use sig_json::limits::TOKEN_BYTES;
+use sig_json::{AnyText, Bytes, Memory, Payload, Text, Value, put_member};
+use sig_jws::{Key, sign};
+use std::alloc::{AllocError, AllocFailed, Global};
+
+/// Why no token was written.
+#[derive(Clone, Copy, Debug, PartialEq, Eq, Hash)]
+pub enum WriteFault {
+    /// The token would have this many bytes, which is more than 8,192.
+    TooLong(u64),
+    /// Want of memory.
+    Memory,
+}
+
+impl From<AllocError> for WriteFault {
+    ghost use Rattle.sig_set.specs.declared.writing.WriteFault.TheVariants.{Memory};
+
+    ghost from_gives = { λ _ e. e ≡ Memory };
+
+    fn from(_error: AllocError) -> WriteFault {
+        WriteFault::Memory
+    }
+}
+
+impl<T: Drop> From<AllocFailed<T>> for WriteFault {
+    ghost use Rattle.sig_set.specs.declared.writing.WriteFault.TheVariants.{Memory};
+
+    ghost from_gives = { λ _ e. e ≡ Memory };
+
+    fn from(_error: AllocFailed<T>) -> WriteFault {
+        WriteFault::Memory
+    }
+}
+
+impl From<Memory> for WriteFault {
+    ghost use Rattle.sig_set.specs.declared.writing.WriteFault.TheVariants.{Memory};
+
+    ghost from_gives = { λ _ e. e ≡ Memory };
+
+    fn from(_error: Memory) -> WriteFault {
+        WriteFault::Memory
+    }
+}
+
+/// The payload of a token with these claims: the text of a JSON object with no space and its members in byte order
+/// (RFC 8417, section 2.2).
+pub fn payload_text(alloc: Global, claims: &Claims) -> Result<Bytes, Memory>
+    ensures { IfOk result (λ bytes. bytes ≡ payload_text_of claims.now) }
+{
+    let payload = payload_value(alloc, claims)?;
+    text_bytes(alloc, &payload)
+}
+
+/// The signed text of these claims, however long it is: under the key by HS256 (RFC 7518, section 3.2), in compact form
+/// (RFC 7515, section 7.1). Its header names the key where the key has a name.
+pub fn signed_claims(alloc: Global, claims: &Claims, key: &Key) -> Result<Bytes, Memory>
+    ensures { IfOk result (λ bytes. bytes ≡ token_text claims.now key.now) }
+{
+    let header = header_text(alloc, &key.kid)?;
+    let payload = payload_text(alloc, claims)?;
+    sign(
+        alloc,
+        header.as_slice(),
+        payload.as_slice(),
+        key.bytes.as_slice(),
+    )
+}
+
+/// The token with these claims: their signed text.
+///
+/// `TooLong` comes exactly where the token has more than 8,192 bytes, and says how many it has.
+pub fn write(alloc: Global, claims: &Claims, key: &Key) -> Result<Bytes, WriteFault>
+    ensures { Answers WriteFault.Memory result (written_of claims.now key.now) }
+{
+    let token = signed_claims(alloc, claims, key)?;
+    let size = token.as_slice().len();
+    if size > TOKEN_BYTES {
+        return Err(WriteFault::TooLong(size as u64));
+    }
+    Ok(token)
+}
+
+fn header_text(alloc: Global, kid: &Option<Text>) -> Result<Bytes, Memory>
+    ensures { IfOk result (λ bytes. bytes ≡ header_text_of kid.now) }
+{
+    let header = match kid {
+        None => plain_header(alloc)?,
+        Some(name) => named_header(alloc, name.as_str())?,
+    };
+    text_bytes(alloc, &header)
+}
+
+fn plain_header(alloc: Global) -> Result<Value, Memory>
+    ensures { IfOk result (λ value. view value ≡ header_of None) }
+{
+    Ok(json!(in alloc; {"alg": "HS256", "typ": "secevent+jwt"})?)
+}
+
+fn named_header(alloc: Global, kid: &str) -> Result<Value, Memory>
+    ensures { IfOk result (λ value. view value ≡ header_of (Some kid.now)) }
+{
+    Ok(json!(in alloc; {"alg": "HS256", "kid": kid, "typ": "secevent+jwt"})?)
+}
+
+fn payload_value(alloc: Global, claims: &Claims) -> Result<Value, Memory>
+    ensures { IfOk result (λ value. view value ≡ payload_of claims.now) }
+{
+    let mut payload = Map::new(alloc);
+    put_member::<AnyText>(alloc, &mut payload, "aud", &claims.aud)?;
+    put_value(alloc, &mut payload, "events", events_value(alloc)?)?;
+    put_value(alloc, &mut payload, "iat", Value::from(claims.iat))?;
+    put_member::<AnyText>(alloc, &mut payload, "iss", &claims.iss)?;
+    put_member::<AnyText>(alloc, &mut payload, "jti", &claims.jti)?;
+    let subject = subject_value(alloc, claims.subject.as_str())?;
+    put_value(alloc, &mut payload, "sub_id", subject)?;
+    Ok(Value::Object(payload))
+}
+
+fn put_value(alloc: Global, payload: &mut Payload, name: &str, value: Value) -> Result<(), Memory>
+    ensures { IfOk result (λ _. members_view payload.new.entries ≡ put name.now (view value) (members_view payload.old.entries)) }
+{
+    let key = String::from_str(alloc, name)?;
+    payload.insert(key, value)?;
+    Ok(())
+}
+
+fn events_value(alloc: Global) -> Result<Value, Memory>
+    ensures { IfOk result (λ value. view value ≡ events_data) }
+{
+    Ok(json!(in alloc; {SESSION_REVOKED: {}})?)
+}
+
+// The text of a value in which no fraction stands.
+fn text_bytes(alloc: Global, value: &Value) -> Result<Bytes, Memory>
+    requires { has_float (view value.now) ≡ false }
+    ensures { IfOk result (λ bytes. bytes ≡ compact_text (view value.now)) }
+{
+    let text = value.to_string(alloc)?;
+    Ok(Bytes::from_vec(text.into_bytes()))
+}
