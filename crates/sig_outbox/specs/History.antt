@@ -1,0 +1,195 @@
+-- A transmitter's history: facts over a base, and what they come to.
+use Rattle.std.specs.Prelude.{ℕ, List, [], ◌∷◌, ◌++◌, ◌+◌, ◌==◌, Bool, true, false, ◌&&◌, ◌||◌, Option, Some, None, codes, decimal, bytes_eq, map, filter, nat_lt, if◌then◌else◌}
+use Rattle.std.specs.List.{list_any}
+use Rattle.std.specs.Cmp.Lexicographic.{slice_cmp}
+use Rattle.std.specs.Ordering.{is_lt, nat_cmp}
+use Rattle.uuid.specs.Text.{hyphenated_text, lower}
+use Rattle.sig_set.specs.declared.claims.Claims.{Claims}
+use Rattle.sig_set.specs.FirstForm.{session_revoked}
+use Rattle.sig_outbox.specs.declared.want.Defaults.{Defaults}
+use Rattle.sig_outbox.specs.declared.want.Defaults.TheVariants as defaults
+use Rattle.sig_outbox.specs.declared.configuration.StreamConf.{StreamConf}
+use Rattle.sig_outbox.specs.declared.token.Issued.{Issued}
+use Rattle.sig_outbox.specs.declared.fact.Fact.{Fact}
+use Rattle.sig_outbox.specs.declared.fact.Fact.TheVariants.{Created, Published, Settled}
+
+-- a stream: whose it is, its number among that client's, its configuration, and how many tokens were made for it
+pub record Stream : Type 0 where
+  pub client : List ℕ
+  pub number : ℕ
+  pub conf : StreamConf
+  pub made : ℕ
+
+-- how many streams a client ever made
+pub record Count : Type 0 where
+  pub client : List ℕ
+  pub count : ℕ
+
+-- a publication, with the tokens that it made
+pub record Publication : Type 0 where
+  pub id : List ℕ
+  pub subject : List ℕ
+  pub issued : List Issued
+
+-- a token that a fact makes
+pub record Made : Type 0 where
+  pub stream : List ℕ
+  pub number : ℕ
+  pub claims : Claims
+
+-- what a history comes to, but for what is owed: its store, the streams in order of client name and number, how many
+-- each client ever made, and all that was published, in order
+pub record Parts : Type 0 where
+  pub store_id : List ℕ
+  pub streams : List Stream
+  pub created : List Count
+  pub published : List Publication
+
+-- the code of `-`
+abbrev pub hyphen : ℕ
+hyphen = 45
+
+-- a stream's name: its client's name, a hyphen and its number
+abbrev pub stream_name : List ℕ → ℕ → List ℕ
+stream_name client number = client ++ hyphen ∷ decimal number
+
+-- the client whose stream has this name: what stands before the first hyphen
+abbrev pub client_in : List ℕ → List ℕ
+client_in [] = []
+client_in (b ∷ bs) = if b == hyphen then [] else b ∷ client_in bs
+
+-- how many streams a client ever made
+abbrev pub created_by : List ℕ → List Count → ℕ
+created_by client [] = 0
+created_by client (c ∷ cs) = if bytes_eq c.client client then c.count else created_by client cs
+
+-- one more of this client
+abbrev pub count_one : List ℕ → List Count → List Count
+count_one client [] = record { client = client; count = 1 } ∷ []
+count_one client (c ∷ cs) =
+    if bytes_eq c.client client then record { client = client; count = c.count + 1 } ∷ cs
+    else c ∷ count_one client cs
+
+-- whether a text stands before another in the order of bytes
+abbrev pub comes_before : List ℕ → List ℕ → Bool
+comes_before a b = is_lt (slice_cmp nat_cmp a b)
+
+-- whether a stream stands before another: by its client's name, and then by its number
+abbrev pub is_before : Stream → Stream → Bool
+is_before a b = comes_before a.client b.client || (bytes_eq a.client b.client && nat_lt a.number b.number)
+
+-- the streams with this one in its place
+abbrev pub put_in_order : Stream → List Stream → List Stream
+put_in_order s [] = s ∷ []
+put_in_order s (t ∷ ts) = if is_before t s then t ∷ put_in_order s ts else s ∷ t ∷ ts
+
+-- whether a stream has this name
+abbrev pub is_named : List ℕ → Stream → Bool
+is_named name s = bytes_eq s.conf.stream name
+
+-- whether the stream stands
+abbrev pub stands : List ℕ → List Stream → Bool
+stands name streams = list_any (is_named name) streams
+
+-- whether an event type was asked for; where none was named, all were
+abbrev pub is_requested : List ℕ → Option (List (List ℕ)) → Bool
+is_requested uri None = true
+is_requested uri (Some uris) = list_any (bytes_eq uri) uris
+
+-- whether the default subjects have a subject; no stream has added or removed one so far
+abbrev pub has_subject : Defaults → List ℕ → Bool
+has_subject defaults.All subject = true
+has_subject defaults.None subject = false
+
+-- whether a publication on a subject is due on a stream (Shared Signals Framework 1.0, sections 7 and 8.1.1)
+abbrev pub is_due : List ℕ → List ℕ → Stream → Bool
+is_due subject uri s = is_requested uri s.conf.requested && has_subject s.conf.defaults subject
+
+-- the streams on which it is due, in order of client name and number
+abbrev pub due : Parts → List ℕ → List ℕ → List Stream
+due parts subject uri = filter (is_due subject uri) parts.streams
+
+-- a token's identifier: the store, the stream and its number, with dots between
+abbrev pub jti_of : List ℕ → List ℕ → ℕ → List ℕ
+jti_of store_id stream number = hyphenated_text lower store_id ++ codes "." ++ stream ++ codes "." ++ decimal number
+
+-- what a token says: its stream's issuer and audience, its identifier, when it was made, and whose session is revoked
+abbrev pub claims_for : List ℕ → StreamConf → ℕ → ℕ → List ℕ → Claims
+claims_for store_id conf number time subject = record {
+  iss = conf.iss;
+  jti = jti_of store_id conf.stream number;
+  iat = time;
+  aud = conf.aud;
+  subject = subject;
+}
+
+-- the next token of a stream, about a subject whose session is revoked, made at a time
+abbrev pub next_token : Parts → List ℕ → ℕ → Stream → Made
+next_token parts subject time s = record {
+  stream = s.conf.stream;
+  number = s.made + 1;
+  claims = claims_for parts.store_id s.conf (s.made + 1) time subject;
+}
+
+-- the tokens that a fact makes, over the parts before it: one for each stream on which a publication is due
+abbrev pub made_by : Parts → Fact → List Made
+made_by parts (Created stream iss aud requested delivery interval defaults description time) = []
+made_by parts (Published id subject time) = map (next_token parts subject time) (due parts subject session_revoked)
+made_by parts (Settled stream items) = []
+
+abbrev pub issued_of : Made → Issued
+issued_of t = record { stream = t.stream; number = t.number }
+
+-- a stream with one more token, where a publication is due on it
+abbrev pub with_token : List ℕ → List ℕ → Stream → Stream
+with_token subject uri s =
+    if is_due subject uri s
+    then record { client = s.client; number = s.number; conf = s.conf; made = s.made + 1 }
+    else s
+
+-- the parts with a new stream of a client
+abbrev pub with_stream : Parts → List ℕ → StreamConf → Parts
+with_stream parts client conf = record {
+  store_id = parts.store_id;
+  streams = put_in_order
+      (record { client = client; number = created_by client parts.created + 1; conf = conf; made = 0 })
+      parts.streams;
+  created = count_one client parts.created;
+  published = parts.published;
+}
+
+-- the parts with a publication
+abbrev pub with_publication : Parts → List ℕ → List ℕ → List Made → Parts
+with_publication parts id subject tokens = record {
+  store_id = parts.store_id;
+  streams = map (with_token subject session_revoked) parts.streams;
+  created = parts.created;
+  published = parts.published ++ record { id = id; subject = subject; issued = map issued_of tokens } ∷ [];
+}
+
+-- the parts after a fact
+abbrev pub parts_after : Parts → Fact → Parts
+parts_after parts (Created stream iss aud requested delivery interval defaults description time) =
+    with_stream parts (client_in stream) (record {
+      stream = stream;
+      iss = iss;
+      aud = aud;
+      requested = requested;
+      delivery = delivery;
+      interval = interval;
+      defaults = defaults;
+      description = description;
+    })
+parts_after parts (Published id subject time) =
+    with_publication parts id subject (made_by parts (Published id subject time))
+parts_after parts (Settled stream items) = parts
+
+-- the parts after facts, one after another
+abbrev pub parts_of : Parts → List Fact → Parts
+parts_of parts [] = parts
+parts_of parts (f ∷ fs) = parts_of (parts_after parts f) fs
+
+-- the tokens that facts make, in order
+abbrev pub tokens_of : Parts → List Fact → List Made
+tokens_of parts [] = []
+tokens_of parts (f ∷ fs) = made_by parts f ++ tokens_of (parts_after parts f) fs

@@ -1,0 +1,42 @@
+use crate::{Issued, StreamConf, Token};
+use sig_json::Items;
+
+/// What the transmitter answers to a call.
+#[derive(Debug, PartialEq, Drop)]
+pub enum Answer {
+    /// The stream was made, and stands like this.
+    Made {
+        /// Its configuration.
+        conf: StreamConf,
+    },
+    /// The first tokens that the stream offers once the poll has settled what it names.
+    Sets {
+        /// The tokens, in order of number; at most a page of them, and at most as many as were asked for.
+        tokens: Items<Token>,
+        /// Whether it offers further ones.
+        more: bool,
+    },
+    /// The publication stands.
+    Published {
+        /// The transmitter's store, whose name begins each token's identifier.
+        store_id: [u8; 16],
+        /// The tokens that it made, in order of client name and stream number.
+        tokens: Items<Issued>,
+    },
+    /// So many tokens were settled: 1, or 0 where the token isn't owed or the answer settles nothing.
+    Settled {
+        /// How many.
+        count: u64,
+    },
+    /// The client isn't configured, or has no such stream.
+    NotFound,
+    /// The client has 16 streams already.
+    TooMany,
+    /// The publication's name was used for another subject.
+    Conflict,
+    /// A token that it would make has a payload of more than 6,000 bytes.
+    Long {
+        /// The bytes of the largest.
+        size: u64,
+    },
+}
