@@ -1,0 +1,6 @@
+use Rattle.std.proofs.Common.{◌≡◌, ◌++◌, drop}
+use Rattle.sig_world.specs.Replay.{issued_text}
+use Rattle.sig_world.proofs.replay_text.add_issued.Given as goal
+
+abbrev pub invariant-loop-token : goal.invariant-loop-token
+invariant-loop-token l = l.text ++ issued_text l.number (drop l.token-index l.tokens) ≡ l.fn.text ++ issued_text l.number l.tokens

@@ -1,0 +1,7 @@
+use Rattle.std.proofs.Common.{◌∙◌, ap}
+use Rattle.sig_outbox.specs.Sound.{is_proper_rules}
+use Rattle.sig_world.proofs.ReplayerLemmas.{proper}
+use Rattle.sig_world.proofs.replayer.Replayer.call.Goals as goal
+
+pub take-requires : goal.take-requires
+take-requires c = c.in-Ok.ensures.ready (ap is_proper_rules c.requires.1.rules ∙ proper)

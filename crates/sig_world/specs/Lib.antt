@@ -1,0 +1,9 @@
+pub mod World
+pub mod Law
+pub mod WholeLines
+pub mod Telling
+pub mod Progress
+pub mod Script
+pub mod Replay
+pub mod ReplayLaws
+pub mod Replaying

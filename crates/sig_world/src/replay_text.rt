@@ -1,0 +1,191 @@
+//! What the lines of a script print.
+
+ghost use Rattle.std.specs.Prelude.{◌≡◌, ◌++◌, ◌+◌, ◌<◌, ◌≤◌, IfOk, OnOk, codes, decimal, length, string_bytes};
+ghost use Rattle.sig_world.specs.Replay.{call_text, heard_text, heard_word, issued_text, messages_text, numbered, token_name, yes_or_no};
+
+use sig_json::{Bytes, Items, Memory};
+use sig_outbox::{Answer, Issued, Token};
+use sig_set::Heard;
+use std::alloc::Global;
+
+/// Adds what the transmitter's answer prints, behind so many messages.
+pub(crate) fn add_call(
+    alloc: Global,
+    text: &mut Bytes,
+    number: u64,
+    before: u64,
+    answer: &Answer,
+) -> Result<(), Memory>
+    requires { before < 9223372036854775808 }
+    ensures { OnOk result (text.new ≡ text.old ++ call_text number before answer.now) }
+{
+    match answer {
+        Answer::Made { conf } => add_two(alloc, text, number, "made ", conf.stream.as_str()),
+        Answer::Sets { tokens, more } => add_sets(alloc, text, number, before, tokens, *more),
+        Answer::Published { tokens, .. } => add_published(alloc, text, number, tokens),
+        Answer::Settled { count } => add_count(alloc, text, number, "settled ", *count),
+        Answer::NotFound => add_line(alloc, text, number, "not-found"),
+        Answer::TooMany => add_line(alloc, text, number, "too-many"),
+        Answer::Conflict => add_line(alloc, text, number, "conflict"),
+        Answer::Long { size } => add_count(alloc, text, number, "long ", *size),
+    }
+}
+
+/// Adds what the receiver's answer prints, behind so many answers.
+pub(crate) fn add_heard(
+    alloc: Global,
+    text: &mut Bytes,
+    number: u64,
+    before: u64,
+    heard: Heard,
+) -> Result<(), Memory>
+    requires { before < 9223372036854775808 }
+    ensures { OnOk result (text.new ≡ text.old ++ heard_text number before heard) }
+{
+    let place = before + 1;
+    let word = word_of(alloc, heard)?;
+    let line = format!(in alloc; "{number} {word} a{place}\n")?;
+    text.add(line.as_bytes())
+}
+
+fn word_of(alloc: Global, heard: Heard) -> Result<String, Memory>
+    ensures { IfOk result (λ word. string_bytes word ≡ heard_word heard) }
+{
+    Ok(match heard {
+        Heard::Accepted => String::from_str(alloc, "accepted")?,
+        Heard::Seen => String::from_str(alloc, "seen")?,
+        Heard::NotTaken { code, spot } => {
+            let code = code.as_str();
+            let spot = spot.as_str();
+            format!(in alloc; "refused {code} {spot}")?
+        }
+    })
+}
+
+fn add_line(alloc: Global, text: &mut Bytes, number: u64, words: &str) -> Result<(), Memory>
+    ensures { OnOk result (text.new ≡ text.old ++ numbered number words.now) }
+{
+    let line = format!(in alloc; "{number} {words}\n")?;
+    text.add(line.as_bytes())
+}
+
+fn add_two(
+    alloc: Global,
+    text: &mut Bytes,
+    number: u64,
+    words: &str,
+    more: &str,
+) -> Result<(), Memory>
+    ensures { OnOk result (text.new ≡ text.old ++ numbered number (words.now ++ more.now)) }
+{
+    let line = format!(in alloc; "{number} {words}{more}\n")?;
+    text.add(line.as_bytes())
+}
+
+fn add_count(
+    alloc: Global,
+    text: &mut Bytes,
+    number: u64,
+    words: &str,
+    count: u64,
+) -> Result<(), Memory>
+    ensures { OnOk result (text.new ≡ text.old ++ numbered number (words.now ++ decimal count)) }
+{
+    let line = format!(in alloc; "{number} {words}{count}\n")?;
+    text.add(line.as_bytes())
+}
+
+fn add_published(
+    alloc: Global,
+    text: &mut Bytes,
+    number: u64,
+    tokens: &Items<Issued>,
+) -> Result<(), Memory>
+    ensures { OnOk result (text.new ≡ text.old ++ (numbered number (codes "published " ++ decimal (length tokens.now)) ++ issued_text number tokens.now)) }
+{
+    add_count(
+        alloc,
+        text,
+        number,
+        "published ",
+        tokens.as_slice().len() as u64,
+    )?;
+    add_issued(alloc, text, number, tokens.as_slice())
+}
+
+fn add_issued(alloc: Global, text: &mut Bytes, number: u64, tokens: &[Issued]) -> Result<(), Memory>
+    ensures { OnOk result (text.new ≡ text.old ++ issued_text number tokens.now) }
+{
+    for token in tokens {
+        add_token(alloc, text, number, token)?;
+    }
+    Ok(())
+}
+
+fn add_token(alloc: Global, text: &mut Bytes, number: u64, token: &Issued) -> Result<(), Memory>
+    ensures { OnOk result (text.new ≡ text.old ++ numbered number (codes "token " ++ token_name token.now.stream token.now.number)) }
+{
+    let stream = token.stream.as_str();
+    let place = token.number;
+    let line = format!(in alloc; "{number} token {stream}.{place}\n")?;
+    text.add(line.as_bytes())
+}
+
+fn add_sets(
+    alloc: Global,
+    text: &mut Bytes,
+    number: u64,
+    before: u64,
+    tokens: &Items<Token>,
+    more: bool,
+) -> Result<(), Memory>
+    requires { before < 9223372036854775808 }
+    ensures { OnOk result (text.new ≡ text.old ++ (numbered number (codes "sets " ++ decimal (length tokens.now) ++ codes " more " ++ yes_or_no more)
+        ++ messages_text number (before + 1) tokens.now)) }
+{
+    let count = tokens.as_slice().len();
+    let further = word_for(more);
+    let line = format!(in alloc; "{number} sets {count} more {further}\n")?;
+    text.add(line.as_bytes())?;
+    add_messages(alloc, text, number, before + 1, tokens.as_slice())
+}
+
+fn word_for(more: bool) -> &'static str
+    ensures { result.now ≡ yes_or_no more }
+{
+    if more { "yes" } else { "no" }
+}
+
+// Adds the lines of messages, counted from here on.
+fn add_messages(
+    alloc: Global,
+    text: &mut Bytes,
+    number: u64,
+    first: u64,
+    tokens: &[Token],
+) -> Result<(), Memory>
+    requires { first ≤ 9223372036854775808 }
+    ensures { OnOk result (text.new ≡ text.old ++ messages_text number first tokens.now) }
+{
+    let mut place = first;
+    for token in tokens {
+        add_message(alloc, text, number, place, token)?;
+        place += 1;
+    }
+    Ok(())
+}
+
+fn add_message(
+    alloc: Global,
+    text: &mut Bytes,
+    number: u64,
+    place: u64,
+    token: &Token,
+) -> Result<(), Memory>
+    ensures { OnOk result (text.new ≡ text.old ++ numbered number (codes "m" ++ decimal place ++ codes " " ++ token_name token.now.stream token.now.number)) }
+{
+    let stream = token.stream.as_str();
+    let made = token.number;
+    let line = format!(in alloc; "{number} m{place} {stream}.{made}\n")?;
+    text.add(line.as_bytes())
+}

@@ -1,0 +1,54 @@
+ghost use Rattle.std.specs.Prelude.{◌≡◌, ◌≤◌, ◌++◌, ℕ, List, [], IfErr, OnOk, Option, None, Some, option_copied};
+ghost use Rattle.sig_world.specs.Telling.{Telling, TakesLine, StopsAt, TableEnd, WhyPut};
+ghost use Rattle.sig_world.specs.declared.stop.Stop.{Stop};
+
+use crate::{ReplayEnd, TellFault};
+use sig_json::Bytes;
+use sig_outside::Sink;
+
+/// A command over the lines of its input.
+///
+/// Its meanings: `told` is what it prints of lines and where they stop it, which no line changes; `stands` says that it
+/// has taken just these lines; `room` is how many bytes a line may have at most.
+pub trait Teller {
+    ghost told: { Self → Telling };
+
+    ghost stands: { Self → List (List ℕ) → Type 0 };
+
+    ghost room: { ℕ };
+
+    /// How many bytes a line may have at most.
+    fn room() -> usize
+        ensures { result ≡ room };
+
+    /// Takes a line, none where it has more bytes than there is room for, and gathers what it prints. After a fault
+    /// nothing is gathered.
+    fn tell(
+        &mut self,
+        number: u64,
+        line: Option<&[u8]>,
+        gathered: &mut Bytes,
+    ) -> Result<(), TellFault>
+        requires { (given : List (List ℕ)) × stands self.old given }
+        ensures told { told self.new ≡ told self.old }
+        ensures takes { OnOk result (TakesLine (told self.old) (stands self.old) (stands self.new) room number (option_copied line.entry) gathered.old gathered.new) }
+        ensures stops { IfErr result (StopsAt (told self.old) (stands self.old) room number (option_copied line.entry)) }
+        ensures none { IfErr result (λ fault. gathered.new ≡ gathered.old) };
+
+    /// Prints what follows the lines at the end of the input, behind what is gathered. The ending is `Done`, `Memory` or
+    /// `Output`.
+    fn close<O: Sink>(&self, gathered: &mut Bytes, output: &mut O) -> ReplayEnd
+        ensures text { (given : List (List ℕ)) → stands self.now given
+            → TableEnd (gathered.old ++ (told self.now).last given) (O.written output.old) (O.written output.new) result }
+        ensures cause { WhyPut (O.faults output.old) (O.faults output.new) (O.stalls output.old) (O.stalls output.new) result }
+        ensures later { O.faults output.old ≤ O.faults output.new }
+        ensures still { (result ≡ ReplayEnd.Output → ⊥) → O.stalls output.new ≡ O.stalls output.old };
+
+    ghost starts: { (x : Self) → ((told x).text [] ≡ []) × ((told x).stop [] ≡ None) };
+
+    ghost grows: { (x : Self) (given more : List (List ℕ))
+        → (rest : List ℕ) × ((told x).text (given ++ more) ≡ (told x).text given ++ rest) };
+
+    ghost stays: { (x : Self) (given more : List (List ℕ)) (s : Stop) → (told x).stop given ≡ Some s
+        → ((told x).stop (given ++ more) ≡ Some s) × ((told x).text (given ++ more) ≡ (told x).text given) };
+}
