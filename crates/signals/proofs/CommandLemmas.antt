@@ -1,8 +1,8 @@
 -- The words behind the name of `fold`.
-use Rattle.std.proofs.Common.{◌≡◌, ◌≢◌, ℕ, List, [], ◌∷◌, map, length, get_or, None, Bool, true, false, refl, arith}
-use Rattle.std.specs.Prelude.{String, string_bytes, bytes_eq, codes}
+use Rattle.std.proofs.Common.{◌≡◌, ◌≢◌, List, [], ◌∷◌, map, length, get_or, None, refl, arith}
+use Rattle.std.specs.Prelude.{String, string_bytes}
 use Rattle.std.specs.declared.alloc.Global.{Global}
-use Rattle.signals.specs.Command.{command_of, fold_command, fold_words}
+use Rattle.signals.specs.Command.{fold_command, fold_words}
 
 pub of_three : (words : List (String Global)) (a b c : String Global) → length words ≡ 3 → a ≡ get_or words 0 a → b ≡ get_or words 1 b → c ≡ get_or words 2 c
     → fold_command (string_bytes a) (string_bytes b) (string_bytes c) ≡ fold_words (map (λ word. string_bytes word) words)
@@ -18,10 +18,3 @@ of_others (x ∷ []) other = refl
 of_others (x ∷ y ∷ []) other = refl
 of_others (x ∷ y ∷ z ∷ []) other = absurd (other refl)
 of_others (x ∷ y ∷ z ∷ w ∷ words) other = refl
-
--- another name, or another number of words behind it
-pub named_otherwise : (name : List ℕ) (words : List (List ℕ)) → bytes_eq name (codes "fold") ≡ false → None ≡ command_of (name ∷ words)
-named_otherwise name words other = rw other refl
-
-pub named_fold : (name : List ℕ) (words : List (List ℕ)) → bytes_eq name (codes "fold") ≡ true → command_of (name ∷ words) ≡ fold_words words
-named_fold name words same = rw same refl

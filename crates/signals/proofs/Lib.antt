@@ -1,6 +1,3 @@
 pub mod CommandLemmas
-pub mod WholeLines
-pub mod TextLemmas
-pub mod ProgressLemmas
-pub mod TableLemmas
+pub mod TellingLemmas
 pub mod EndLemmas

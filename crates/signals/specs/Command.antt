@@ -1,8 +1,8 @@
 -- The words of the command line.
-use Rattle.std.specs.Prelude.{ℕ, List, [], ◌∷◌, Bool, ◌&&◌, Option, Some, None, option_map, bytes_eq, codes, length, nat_lt, if◌then◌else◌}
+use Rattle.std.specs.Prelude.{ℕ, List, [], ◌∷◌, Bool, ◌&&◌, Option, None, Some, option_map, bytes_eq, codes, length, nat_lt, if◌then◌else◌}
 use Rattle.sig_jws.specs.Key.{key_word_of}
 use Rattle.signals.specs.declared.command.Command.{Command}
-use Rattle.signals.specs.declared.command.Command.TheVariants.{Fold}
+use Rattle.signals.specs.declared.command.Command.TheVariants.{Fold, Replay}
 
 -- a word that isn't empty
 abbrev pub is_filled : List ℕ → Bool
@@ -20,7 +20,15 @@ fold_words (iss ∷ aud ∷ []) = None
 fold_words (iss ∷ aud ∷ key ∷ []) = fold_command iss aud key
 fold_words (iss ∷ aud ∷ key ∷ more ∷ words) = None
 
+-- `replay`, alone
+abbrev pub replay_words : List (List ℕ) → Option Command
+replay_words [] = Some Replay
+replay_words (word ∷ words) = None
+
 -- the command that words are, none where they are none
 abbrev pub command_of : List (List ℕ) → Option Command
 command_of [] = None
-command_of (name ∷ words) = if bytes_eq name (codes "fold") then fold_words words else None
+command_of (name ∷ words) =
+    if bytes_eq name (codes "fold") then fold_words words
+    else if bytes_eq name (codes "replay") then replay_words words
+    else None

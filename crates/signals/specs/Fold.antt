@@ -1,13 +1,10 @@
 -- What `fold` prints: a verdict for each line of the input, and then the session table.
-use Rattle.std.specs.Prelude.{ℕ, List, [], ◌∷◌, ◌++◌, ◌+◌, ◌==◌, Option, Some, None, length}
-use Rattle.std.specs.List.{slice_split}
-use Rattle.std.specs.Str.Lines.{lines, strip_carriage_return}
-use Rattle.sig_jws.specs.declared.key.Key.{Key}
-use Rattle.sig_set.specs.declared.trust.Issuer.{Issuer}
+use Rattle.std.specs.Prelude.{ℕ, List, [], ◌∷◌, ◌++◌, ◌+◌, Some, None, length}
 use Rattle.sig_set.specs.declared.trust.Trust.{Trust}
 use Rattle.sig_set.specs.Journal.{answer_to, journal_by, distinct}
 use Rattle.sig_set.specs.Printed.{answer_text, table_text}
 use Rattle.sig_set.specs.Table.{fold_rows}
+use Rattle.sig_world.specs.Telling.{Telling}
 
 -- one issuer with one key, which has no name
 abbrev pub trust_of : List ℕ → List ℕ → List ℕ → Trust
@@ -38,16 +35,10 @@ journal_of trust me journal (line ∷ more) = journal_of trust me (journal_after
 abbrev pub journal_text : List (List ℕ) → List ℕ
 journal_text journal = table_text (fold_rows [] (distinct [] journal)) (length (distinct [] journal))
 
--- the whole text: the lines' verdicts, and then the table
-abbrev pub fold_text : Trust → List ℕ → List ℕ → List ℕ
-fold_text trust me input = lines_text trust me 1 [] (lines input) ++ journal_text (journal_of trust me [] (lines input))
-
--- the parts that end, but for the last one, each without the one CR at its end
-abbrev pub ended_parts : List (List ℕ) → List (List ℕ)
-ended_parts [] = []
-ended_parts (part ∷ []) = []
-ended_parts (part ∷ next ∷ more) = strip_carriage_return part ∷ ended_parts (next ∷ more)
-
--- the lines of bytes that end with an LF
-abbrev pub whole_lines : List ℕ → List (List ℕ)
-whole_lines bytes = ended_parts (slice_split (λ b. b == 10) bytes)
+-- the verdicts of the lines, and at the end the table; no line stops it
+abbrev pub fold_telling : Trust → List ℕ → Telling
+fold_telling trust me = record {
+  text = λ given. lines_text trust me 1 [] given;
+  stop = λ given. None;
+  last = λ given. journal_text (journal_of trust me [] given);
+}

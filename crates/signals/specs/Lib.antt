@@ -1,4 +1,4 @@
 pub mod Command
 pub mod Fold
+pub mod FoldLaws
 pub mod Ends
-pub mod Progress

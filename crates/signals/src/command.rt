@@ -17,6 +17,8 @@ pub enum Command {
         /// The key that they have to be signed under.
         key: Bytes,
     },
+    /// Runs the script that the input is: a transmitter and a receiver side by side.
+    Replay,
 }
 
 /// The command that the words are, none exactly where they are none.
@@ -32,16 +34,36 @@ pub fn command_of(alloc: Global, words: &[String]) -> Result<Option<Command>, Me
 fn named_command(alloc: Global, name: &str, words: &[String]) -> Result<Option<Command>, Memory>
     ensures { IfOk result (λ command. command ≡ spec.command_of (name.now ∷ map (λ word. string_bytes word) words.now)) }
 {
-    if name == "fold" && words.len() == 3 {
-        fold_of(
-            alloc,
-            words[0].as_str(),
-            words[1].as_str(),
-            words[2].as_str(),
-        )
+    if name == "fold" {
+        fold_words(alloc, words)
+    } else if name == "replay" {
+        Ok(replay_words(words))
     } else {
         Ok(None)
     }
+}
+
+fn replay_words(words: &[String]) -> Option<Command>
+    ensures { result ≡ spec.replay_words (map (λ word. string_bytes word) words.now) }
+{
+    match words.first() {
+        None => Some(Command::Replay),
+        Some(_) => None,
+    }
+}
+
+fn fold_words(alloc: Global, words: &[String]) -> Result<Option<Command>, Memory>
+    ensures { IfOk result (λ command. command ≡ spec.fold_words (map (λ word. string_bytes word) words.now)) }
+{
+    if words.len() != 3 {
+        return Ok(None);
+    }
+    fold_of(
+        alloc,
+        words[0].as_str(),
+        words[1].as_str(),
+        words[2].as_str(),
+    )
 }
 
 fn fold_of(alloc: Global, iss: &str, aud: &str, key: &str) -> Result<Option<Command>, Memory>

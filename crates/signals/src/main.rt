@@ -4,20 +4,19 @@
 //!                                            -> session table      -> output, at the end
 //!
 //! `run` does everything over any source and sink, and its contract says how each run ends: its status, why it ends so,
-//! and the text that is written (`specs/Ends`, `specs/Fold`). `main` calls it over standard input and output. This crate
-//! stands on `sig_set` for the judgement and the table, and on `sig_outside` for lines, sources and sinks.
+//! and the text that is written (`specs/Ends`, `specs/Fold`). `main` calls it over standard input and output. A command is
+//! a `Teller` of `sig_world`, which tells it the lines and puts what it prints; `fold` is the one in `folder`. This crate
+//! stands on `sig_set` for the judgement and the table, and on `sig_outside` for sources and sinks.
 //!
 //! Left out: that bytes really reach or leave the system, which no contract can say, and how long anything takes.
 #![tactic(auto)]
 
 mod command;
 mod ending;
-mod folding;
-mod gathering;
-mod judging;
+mod finishing;
+mod folder;
 mod running;
 mod standard;
-mod tabling;
 #[cfg(test)]
 mod tests;
 

@@ -1,5 +1,6 @@
 //! Whole runs over the memory versions, with texts worked out by hand.
 
+mod scripts;
 mod tokens;
 
 use crate::running::run;
@@ -59,12 +60,13 @@ const VERDICTS: [&str; 6] = [
 
 #[test]
 fn words_that_are_no_command_are_told_so(rt: HostRuntime) -> Result<(), Fail> {
-    let cases: [&[&str]; 11] = [
+    let cases: [&[&str]; 12] = [
         &[],
         &["fold"],
         &["fold", ISS, AUD],
         &["fold", ISS, AUD, KEY, "more"],
         &["Fold", ISS, AUD, KEY],
+        &["replay", "more"],
         &["fold", "", AUD, KEY],
         &["fold", ISS, "", KEY],
         &["fold", ISS, AUD, ""],
