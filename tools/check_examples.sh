@@ -1,6 +1,22 @@
 #!/usr/bin/env bash
-# The tokens of the examples and of the tests are those that the signing script makes.
+# The tokens of the examples and of the tests are those that the signing script makes, and each example prints the text
+# beside it, which was worked out by hand.
 set -eu
 cd "$(dirname "$0")/.."
 python3 tools/sign_tokens.py examples | cmp - examples/tokens.txt
 python3 tools/sign_tokens.py source | tr -d ' \n' | cmp - <(tr -d ' \n' <crates/sig_set/src/tests/tokens.rt)
+
+folder=$(mktemp -d)
+trap 'rm -rf "$folder"' EXIT
+
+add_case() { # EXAMPLE WORDS..
+    cp "examples/$1.txt" "$folder/$1"
+    cp "examples/$1.out.txt" "$folder/$1.stdout"
+    printf '%s\n' "${@:2}" >"$folder/$1.args"
+}
+
+add_case tokens fold https://idp.example https://rp.example MDEyMzQ1Njc4OWFiY2RlZjAxMjM0NTY3ODlhYmNkZWY
+add_case replay replay
+# `rt try` runs the program without proving it again.
+cd crates/signals
+rt try --cases "$folder"
