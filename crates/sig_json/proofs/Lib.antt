@@ -11,3 +11,4 @@ pub mod SpelledTexts
 pub mod Spelled
 pub mod Shapes
 pub mod PutMembers
+pub mod CanonicalPayloads

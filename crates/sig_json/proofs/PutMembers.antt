@@ -133,7 +133,8 @@ put_have (r ∷ rs) (k ∷ ks) ms all distinct none proper same = (
 
 -- ---- what was read of a text is proper
 
-inside : (n : List ℕ) (v d : Data) → InOrder v → depth v ≤ max_depth → member_of n v ≡ Some d → InOrder d × (depth d ≤ max_depth)
+-- what a value in order has is in order
+pub inside : (n : List ℕ) (v d : Data) → InOrder v → depth v ≤ max_depth → member_of n v ≡ Some d → InOrder d × (depth d ≤ max_depth)
 inside n null d order deep is = cc
 inside n (boolean b) d order deep is = cc
 inside n (number x) d order deep is = cc
@@ -164,7 +165,7 @@ whole_again (array ds) z order is = cc
 whole_again (object ms) z order is = cc
 
 -- a value that is kept whole is spelled by its text
-spelled_again : (d : Data) (k : Kept) → InOrder d → depth d ≤ max_depth → KeepsWhole d k → data_of k ≡ d
+pub spelled_again : (d : Data) (k : Kept) → InOrder d → depth d ≤ max_depth → KeepsWhole d k → data_of k ≡ d
 spelled_again d k order deep (plain, keeps) =
     ap data_of keeps ∙ ap (λ o. unwrap_or o null) (canon_reads d (canonical d order plain) deep)
 

@@ -40,7 +40,7 @@ pub use listed::{Listed, value_named};
 pub use members::{MemberKind, PayloadFault, optional_member, required_member};
 pub use memory::Memory;
 pub use optional::copy_optional;
-pub use payload::{Payload, put_member, put_optional_member};
+pub use payload::{Payload, put_member, put_optional_member, put_value};
 pub use reading::{JsonFault, list_of, object_of, present, read, text_of, whole_of};
 pub use same::Same;
 pub use serde_json::Value;

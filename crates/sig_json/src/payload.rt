@@ -40,7 +40,13 @@ pub fn put_optional_member<K: MemberKind>(
     }
 }
 
-fn put_value(alloc: Global, payload: &mut Payload, name: &str, value: Value) -> Result<(), Memory>
+/// Puts a member with this value, which replaces one of that name.
+pub fn put_value(
+    alloc: Global,
+    payload: &mut Payload,
+    name: &str,
+    value: Value,
+) -> Result<(), Memory>
     ensures { IfOk result (λ _. members_view payload.new.entries ≡ put name.now (view value) (members_view payload.old.entries)) }
 {
     let key = String::from_str(alloc, name)?;
