@@ -1,9 +1,10 @@
--- A subject that was read of a text is proper.
+-- A subject that was read of a text is proper, and a proper one is written as a canonical value.
 use Rattle.std.proofs.Common.{◌≡◌, ◌≤◌, ◌||◌, ℕ, List, [], ◌∷◌, Bool, true, false, codes, Some, refl, sym, ap, ◌∙◌, subst, arith}
 use Rattle.serde_json.specs.Data.{Data, string, array, object, Items, no_items, item, Members, no_members, member, depth, items_depth, members_depth}
 use Rattle.serde_json.specs.Find.{get_member}
 use Rattle.serde_json.specs.Read.{max_depth}
 use Rattle.serde_json.specs.Written.{compact_text, has_float, items_have_float, members_have_float}
+use Rattle.sig_json.specs.Canon.{IsCanonical}
 use Rattle.sig_json.specs.Json.{json_of, member_of, text_member}
 use Rattle.sig_json.proofs.OrderedMembers.{get_here, get_later}
 use Rattle.sig_json.proofs.ReadBack.{canon_reads}
@@ -19,7 +20,7 @@ use Rattle.sig_subject.specs.declared.member.Member.{Member}
 use Rattle.sig_subject.specs.declared.subject.Subject.{Subject}
 use Rattle.sig_subject.specs.declared.subject.Subject.TheVariants as subject
 use Rattle.sig_subject.specs.Subjects.{PartsAre, PlainIs, PlainsAre, SimpleIs, SubjectIs, parts_of}
-use Rattle.sig_subject.specs.Written.{of_format, subject_data, ReadsProper}
+use Rattle.sig_subject.specs.Written.{of_format, subject_data, subject_text, ReadsProper, WritesCanonical}
 
 neither : (a b : Bool) → a ≡ false → b ≡ false → a || b ≡ false
 neither a b h k = rw (h, k) refl
@@ -91,7 +92,8 @@ parts_whole (member k d rest) ms h ordered shallow format =
 some_same : (d e : Data) → Some d ≡ Some e → d ≡ e
 some_same d e h = cc
 
-subject_whole : (s : Subject) (v : Data) → SubjectIs s v → InOrder v → depth v ≤ max_depth → has_float v ≡ false
+-- no fraction stands in what a subject is
+pub subject_whole : (s : Subject) (v : Data) → SubjectIs s v → InOrder v → depth v ≤ max_depth → has_float v ≡ false
 subject_whole (subject.Simple s) v h ordered shallow = simple_whole s v h ordered shallow
 subject_whole (subject.Complex parts) v h ordered shallow =
     let ms = h.1.0 in
@@ -109,3 +111,9 @@ reads_proper text v s spelled read =
     let shallow = spelled_depth text v spelled in
     let written : subject_data s ≡ v = writes_back text s v spelled is in
     (v, ap (λ d. json_of (compact_text d)) written ∙ canon_reads v (canonical v ordered (subject_whole s v is ordered shallow)) shallow, is)
+
+pub writes_canonical : WritesCanonical
+writes_canonical s (v, spelled, is) =
+    let ordered = spelled_in_order (subject_text s) v spelled in
+    let shallow = spelled_depth (subject_text s) v spelled in
+    subst IsCanonical (sym (writes_back (subject_text s) s v spelled is)) (canonical v ordered (subject_whole s v is ordered shallow))

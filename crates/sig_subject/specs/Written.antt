@@ -4,6 +4,7 @@ use Rattle.std.specs.Prelude.{◌≡◌, ℕ, List, [], ◌∷◌, map, Some, Ok
 use Rattle.serde_json.specs.Data.{Data, null, string, array, object, Members, no_members, put}
 use Rattle.serde_json.specs.View.{items_of}
 use Rattle.serde_json.specs.Written.{compact_text}
+use Rattle.sig_json.specs.Canon.{IsCanonical}
 use Rattle.sig_json.specs.Json.{json_of}
 use Rattle.sig_subject.specs.declared.plain.Plain.{Plain}
 use Rattle.sig_subject.specs.declared.plain.Plain.TheVariants as plain
@@ -66,3 +67,7 @@ ReadsProper = (text : List ℕ) (v : Data) (s : Subject) → json_of text ≡ So
 -- what is written of a proper subject is read as an identical one
 abbrev pub ReadsWritten : Type 0
 ReadsWritten = (s : Subject) → IsProperSubject s → subject_of (subject_data s) ≡ Ok s
+
+-- what is written of a proper subject is canonical
+abbrev pub WritesCanonical : Type 0
+WritesCanonical = (s : Subject) → IsProperSubject s → IsCanonical (subject_data s)

@@ -2,7 +2,7 @@
 
 ghost use Rattle.sig_subject.specs.Matching.{DecidesIdentity};
 ghost use Rattle.sig_subject.specs.Reading.{ReadsSubjects};
-ghost use Rattle.sig_subject.specs.Written.{ReadsProper, ReadsWritten, WritesBack};
+ghost use Rattle.sig_subject.specs.Written.{ReadsProper, ReadsWritten, WritesBack, WritesCanonical};
 
 /// Subjects are identical exactly where contracts see one value.
 pub fn identity_is_decided()
@@ -28,4 +28,9 @@ pub fn read_subjects_are_proper()
 /// What is written of a proper subject is read as an identical one.
 pub fn written_subjects_are_read()
     ensures { ReadsWritten }
+{}
+
+/// A proper subject is written as a canonical value.
+pub fn proper_subjects_are_canonical()
+    ensures { WritesCanonical }
 {}

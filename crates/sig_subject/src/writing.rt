@@ -6,7 +6,7 @@ ghost use Rattle.sig_subject.specs.Written.{of_format, part_data, plain_data, pu
 
 use crate::{Member, Plain, Simple, Subject};
 use serde_json::{Map, Value};
-use sig_json::{JsonFault, Memory, Text, read};
+use sig_json::{JsonFault, Memory, Text, put_value, read};
 use std::alloc::Global;
 
 /// The object of the subject (RFC 9493, section 3.2; OpenID Shared Signals Framework 1.0, section 4). A subject of an
@@ -38,7 +38,7 @@ fn put_parts(
 {
     for part in parts {
         let value = simple_value(alloc, &part.simple)?;
-        put_member(alloc, members, part.name.as_str(), value)?;
+        put_value(alloc, members, part.name.as_str(), value)?;
     }
     Ok(())
 }
@@ -58,7 +58,7 @@ fn aliases_value(alloc: Global, identifiers: &[Plain]) -> Result<Value, Memory>
     let list = plain_values(alloc, identifiers)?;
     let mut members = Map::new(alloc);
     put_text(alloc, &mut members, "format", "aliases")?;
-    put_member(alloc, &mut members, "identifiers", list)?;
+    put_value(alloc, &mut members, "identifiers", list)?;
     Ok(Value::Object(members))
 }
 
@@ -144,18 +144,5 @@ fn put_text(
     ensures { OnOk result (members_view members.new.entries ≡ put name.now (string text.now) (members_view members.old.entries)) }
 {
     let value = Value::String(String::from_str(alloc, text)?);
-    put_member(alloc, members, name, value)
-}
-
-fn put_member(
-    alloc: Global,
-    members: &mut Map<String, Value>,
-    name: &str,
-    value: Value,
-) -> Result<(), Memory>
-    ensures { OnOk result (members_view members.new.entries ≡ put name.now (view value) (members_view members.old.entries)) }
-{
-    let key = String::from_str(alloc, name)?;
-    members.insert(key, value)?;
-    Ok(())
+    put_value(alloc, members, name, value)
 }
