@@ -1,2 +1,3 @@
+pub mod CanonicalCaep
 pub mod ReadsCaep
 pub mod WrittenCaep

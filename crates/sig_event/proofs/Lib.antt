@@ -1,3 +1,4 @@
+pub mod CanonicalEvents
 pub mod EventSteps
 pub mod ReadsEvents
 pub mod WrittenEvents

@@ -2,6 +2,7 @@
 use Rattle.std.specs.Prelude.{◌≡◌, ◌↔◌, ℕ, List, [], ◌∷◌, ◌++◌, codes, map, true, Option, Some, None, option_map, Result, Ok}
 use Rattle.serde_json.specs.Data.{Data, object, no_members}
 use Rattle.serde_json.specs.Written.{compact_text}
+use Rattle.sig_json.specs.Canon.{IsCanonical}
 use Rattle.sig_json.specs.Checks.{Check, check, decided, first_failing, map_fault}
 use Rattle.sig_json.specs.Json.{json_of, member_of}
 use Rattle.sig_json.specs.Members.{IsObject, is_object, Rule, AnyText, OneOf, required, optional, Words, AllHave, payload_checks, text_in, value_of}
@@ -114,3 +115,7 @@ ReadsEvents = (e : Event) (uri : List ℕ) (v : Data) (s : Subject) → IsEvent 
 -- what is written of a proper event is read as an equal one
 abbrev pub ReadsWritten : Type 0
 ReadsWritten = (e : Event) (s : Subject) → IsProperEvent e s → event_of (uri_of e) (payload_of e) s ≡ Ok e
+
+-- what is written of a proper event is canonical
+abbrev pub WritesCanonical : Type 0
+WritesCanonical = (e : Event) (s : Subject) → IsProperEvent e s → IsCanonical (payload_of e)

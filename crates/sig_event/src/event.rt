@@ -47,6 +47,19 @@ impl Event {
         }
     }
 
+    /// The URI of its type.
+    pub fn uri(&self) -> &str
+        ensures { result.now ≡ uri_of self.now }
+    {
+        match self {
+            Event::Caep(event) => EventType::Caep(event.kind.event_type()).as_str(),
+            Event::Risc(event) => EventType::Risc(event.event_type()).as_str(),
+            Event::Verification { .. } => EventType::Verification.as_str(),
+            Event::StreamUpdated { .. } => EventType::StreamUpdated.as_str(),
+            Event::Other { uri } => uri.as_str(),
+        }
+    }
+
     /// An equal event.
     pub fn copy(&self, alloc: Global) -> Result<Event, Memory>
         ensures { IfOk result (λ c. c ≡ self.now) }
@@ -102,11 +115,5 @@ impl Same for Event {
 pub fn uri(alloc: Global, event: &Event) -> Result<Text, Memory>
     ensures { IfOk result (λ t. t ≡ uri_of event.now) }
 {
-    match event {
-        Event::Caep(event) => Text::of(alloc, EventType::Caep(event.kind.event_type()).as_str()),
-        Event::Risc(event) => Text::of(alloc, EventType::Risc(event.event_type()).as_str()),
-        Event::Verification { .. } => Text::of(alloc, EventType::Verification.as_str()),
-        Event::StreamUpdated { .. } => Text::of(alloc, EventType::StreamUpdated.as_str()),
-        Event::Other { uri } => uri.copy(alloc),
-    }
+    Text::of(alloc, event.uri())
 }

@@ -1,2 +1,3 @@
+pub mod CanonicalRisc
 pub mod ReadsRisc
 pub mod WrittenRisc
