@@ -1,0 +1,57 @@
+-- What all events of a token make of one row.
+use Rattle.std.specs.Prelude.{ℕ, List, [], ◌∷◌, ◌++◌, Option, Some, None, if◌then◌else◌}
+use Rattle.sig_caep.specs.declared.kind.CaepKind.{CaepKind}
+use Rattle.sig_caep.specs.declared.kind.CaepKind.TheVariants as caep
+use Rattle.sig_json.specs.Checks.{or_else}
+use Rattle.sig_subject.specs.declared.subject.Subject.{Subject}
+use Rattle.sig_subject.specs.Matching.{is_covering}
+use Rattle.sig_event.specs.declared.event.Event.{Event}
+use Rattle.sig_event.specs.declared.event.Event.TheVariants as event
+use Rattle.sig_sessions.specs.declared.row.Row.{Row}
+use Rattle.sig_sessions.specs.declared.state.State.{State}
+use Rattle.sig_sessions.specs.declared.update.Update.{Update}
+use Rattle.sig_sessions.specs.Effects.{state_after}
+use Rattle.sig_sessions.specs.Table.{state_of, with_state}
+
+-- the level that an event of CAEP tells
+abbrev pub told_by : CaepKind → Option (List ℕ)
+told_by caep.SessionRevoked = None
+told_by (caep.TokenClaimsChange claims) = None
+told_by (caep.CredentialChange credential change) = None
+told_by (caep.AssuranceLevelChange namespace current direction) = Some current
+told_by (caep.DeviceComplianceChange before after) = None
+told_by (caep.SessionEstablished acr amr ext_id fp_ua) = None
+told_by (caep.SessionPresented ext_id fp_ua) = None
+
+abbrev pub told : Event → Option (List ℕ)
+told (event.Caep e) = told_by e.kind
+told (event.Risc e) = None
+told (event.Verification state) = None
+told (event.StreamUpdated status reason) = None
+told (event.Other uri) = None
+
+-- the last level that the events tell
+abbrev pub last_told : List Event → Option (List ℕ)
+last_told [] = None
+last_told (e ∷ es) = or_else (last_told es) (told e)
+
+-- the state after the events, one behind the other
+abbrev pub states_after : List Event → State → State
+states_after [] s = s
+states_after (e ∷ es) s = states_after es (state_after e s)
+
+-- a row after the events
+abbrev pub changed_by_all : List Event → Row → Row
+changed_by_all es r = with_state (states_after es (state_of r)) (or_else (last_told es) r.level) r
+
+-- a row after the events on a subject that covers it, and the row itself else
+abbrev pub changed_by_all_where_covered : Subject → List Event → Row → Row
+changed_by_all_where_covered subject es r = if is_covering subject r.subject then changed_by_all es r else r
+
+-- what the events make of the row at a place
+abbrev pub update_at : ℕ → List Event → Row → Update
+update_at place es r = record { place = place; state = states_after es (state_of r); level = last_told es }
+
+-- changes, with that of the row at a place where the subject covers it
+abbrev pub with_update : Subject → List Event → ℕ → Row → List Update → List Update
+with_update subject es place r us = if is_covering subject r.subject then us ++ update_at place es r ∷ [] else us

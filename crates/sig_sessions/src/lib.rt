@@ -1,0 +1,28 @@
+//! The session table: what an application may conclude from the events of the tokens that it took (this product's own).
+//!
+//! It stands on `sig_event` for claims and on `sig_subject` for whom they are about. A row is a subject and what is known
+//! of it, in order of first mention (`specs/Table`); an event changes the rows that its subject covers by a table
+//! (`specs/Effects`); a verdict on a subject is drawn from the rows that cover it (`specs/Verdicts`).
+//!
+//! Promised: a change that was made ready is taken in without memory, and leaves the rows as the table of effects says; a
+//! verdict is the defined one. Left out: that the effects and verdicts are wise. So far every row is looked at.
+#![tactic(auto)]
+
+mod changing;
+mod effects;
+mod marks;
+mod preparing;
+mod row;
+mod standing;
+mod state;
+mod table;
+#[cfg(test)]
+mod tests;
+mod update;
+mod verdict;
+
+pub use changing::Change;
+pub use row::Row;
+pub use standing::{Account, Device, Opt, Session};
+pub use table::Table;
+pub use verdict::Verdict;

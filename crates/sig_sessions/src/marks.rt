@@ -1,0 +1,49 @@
+//! What a row may say of each subject that it covers.
+
+ghost use Rattle.std.specs.Prelude.{◌≡◌};
+ghost use Rattle.std.specs.List.{list_any};
+ghost use Rattle.sig_sessions.specs.Marks as spec;
+ghost use Rattle.sig_sessions.specs.Verdicts.{covering};
+
+use crate::{Account, Device, Row, Session};
+use sig_subject::{Subject, covers};
+
+/// One thing that a row may say.
+#[derive(Clone, Copy, Debug, PartialEq, Eq, Hash)]
+pub(crate) enum Mark {
+    Live,
+    Revoked,
+    Enabled,
+    Disabled,
+    Purged,
+    Compliant,
+    NotCompliant,
+    Reset,
+}
+
+/// Whether a row that covers the subject says it.
+pub(crate) fn is_said(rows: &[Row], subject: &Subject, mark: Mark) -> bool
+    ensures { result ≡ list_any (spec.has_mark mark) (covering subject.now rows.now) }
+{
+    for row in rows {
+        if covers(&row.subject, subject) && has_mark(row, mark) {
+            return true;
+        }
+    }
+    false
+}
+
+fn has_mark(row: &Row, mark: Mark) -> bool
+    ensures { result ≡ spec.has_mark mark row.now }
+{
+    match mark {
+        Mark::Live => row.session == Session::Live,
+        Mark::Revoked => row.session == Session::Revoked,
+        Mark::Enabled => row.account == Account::Enabled,
+        Mark::Disabled => row.account == Account::Disabled,
+        Mark::Purged => row.account == Account::Purged,
+        Mark::Compliant => row.device == Device::Compliant,
+        Mark::NotCompliant => row.device == Device::NotCompliant,
+        Mark::Reset => row.reset,
+    }
+}

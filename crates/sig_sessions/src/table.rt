@@ -1,0 +1,110 @@
+ghost use Rattle.std.specs.Prelude.{◌≡◌, [], IfOk, drop, take, vec_len, vec_capacity};
+
+use crate::effects::have_effect;
+use crate::preparing::{row_to_add, updates_of};
+use crate::row::copy_rows;
+use crate::{Change, Row, Verdict, verdict};
+use sig_event::Claims;
+use sig_json::{Items, Memory};
+use sig_subject::Subject;
+use std::alloc::Global;
+use std::marker::Model;
+
+/// The session table: rows in order of first mention.
+#[derive(Debug, Drop)]
+pub struct Table {
+    alloc: Global,
+    rows: Vec<Row>,
+}
+
+impl Model for Table {
+    ghost use Rattle.std.specs.Prelude.{◌-◌, vec_len, vec_capacity};
+    ghost use Rattle.sig_sessions.specs.Changes.{Held};
+
+    ghost Value = { Held };
+
+    ghost view = { λ t. record { rows = t.rows.items; room = vec_capacity t.rows - vec_len t.rows } };
+}
+
+impl Table {
+    ghost use Rattle.sig_sessions.specs.Changes.{IsReady, applied};
+    ghost use Rattle.sig_sessions.specs.Table.{effect};
+    ghost use Rattle.sig_sessions.specs.Verdicts.{verdict_of};
+
+    /// No rows. It keeps the allocator and takes no memory.
+    pub fn new(alloc: Global) -> Table
+        ensures { result.rows ≡ [] }
+    {
+        Table {
+            alloc,
+            rows: Vec::new(alloc),
+        }
+    }
+
+    /// Makes ready what the claims make of the rows. The rows stay as they are.
+    pub fn prepare(&mut self, claims: &Claims) -> Result<Change, Memory>
+        ensures same { self.new.rows ≡ self.old.rows }
+        ensures ready { IfOk result (λ change. IsReady self.new change) }
+        ensures makes { IfOk result (λ change. applied change self.old.rows ≡ effect claims.now self.old.rows) }
+    {
+        if !have_effect(claims.events.as_slice()) {
+            return Ok(Change::of(Vec::new(self.alloc), None));
+        }
+        let updates = updates_of(self.alloc, self.rows.as_slice(), claims)?;
+        let added = row_to_add(self.alloc, self.rows.as_slice(), claims)?;
+        if added.is_some() {
+            self.rows.reserve(1)?;
+        }
+        Ok(Change::of(updates, added))
+    }
+
+    /// Takes in the change that the last `prepare` gave. It takes no memory.
+    pub fn commit(&mut self, change: Change)
+        requires { IsReady self.old change }
+        ensures { self.new.rows ≡ applied change self.old.rows }
+    {
+        change.take_in(&mut self.rows);
+    }
+
+    /// What the table says of a subject. It takes no memory.
+    pub fn verdict(&self, subject: &Subject) -> Verdict
+        ensures { result ≡ verdict_of self.now.rows subject.now }
+    {
+        verdict::verdict_of(self.rows.as_slice(), subject)
+    }
+
+    /// The rows in order.
+    pub fn as_slice(&self) -> &[Row]
+        ensures { result.now ≡ self.now.rows }
+    {
+        self.rows.as_slice()
+    }
+
+    /// Copies of the rows from a place on, counted from 0, at most so many.
+    pub fn rows(&self, from: u64, most: u64) -> Result<Items<Row>, Memory>
+        ensures { IfOk result (λ rows. rows ≡ take most (drop from self.now.rows)) }
+    {
+        let page = page_of(self.rows.as_slice(), from, most);
+        Ok(Items::of(copy_rows(self.alloc, page)?))
+    }
+
+    /// A table with the same rows.
+    pub fn copy(&self, alloc: Global) -> Result<Table, Memory>
+        ensures { IfOk result (λ t. t.rows ≡ self.now.rows) }
+    {
+        Ok(Table {
+            alloc,
+            rows: copy_rows(alloc, self.rows.as_slice())?,
+        })
+    }
+}
+
+// The rows from a place on, at most so many.
+fn page_of(rows: &[Row], from: u64, most: u64) -> &[Row]
+    ensures { result.now ≡ take most (drop from rows.now) }
+{
+    let start = rows.len().min(from as usize);
+    let rest = &rows[start..];
+    let end = rest.len().min(most as usize);
+    &rest[..end]
+}
