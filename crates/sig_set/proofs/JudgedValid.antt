@@ -1,13 +1,17 @@
 -- What is written of proper claims is judged valid: it is split into what was signed, and each check holds of that.
-use Rattle.std.proofs.Common.{◌≡◌, ◌≢◌, ◌∙◌, ap, subst, ℕ, ◌≤◌, List, [], ◌∷◌, Bool, true, false, Option, Some, None, IfSome, IsUtf8, refl, arith}
-use Rattle.std.specs.Prelude.{length, nat_le, if◌then◌else◌, Ok, Err}
+use Rattle.std.proofs.Common.{◌≡◌, ◌≢◌, ◌∙◌, ap, sym, subst, ℕ, ◌<◌, ◌≤◌, ◌&&◌, ◌++◌, List, [], ◌∷◌, Bool, true, false, Option, Some, None, Contains, option_and_then, option_map, unwrap_or, IfSome, IsUtf8, refl, arith}
+use Rattle.std.specs.Prelude.{bytes_eq, codes, length, nat_le, if◌then◌else◌, Ok, Err}
+use Rattle.std.specs.List.{list_any}
 use Rattle.std.specs.Result.{result_ok}
 use Rattle.std.specs.Str.{is_utf8}
 use Rattle.std.proofs.lemmas.Str.{IsUtf8-from_is_utf8}
-use Rattle.serde_json.specs.Data.{Data, depth}
+use Rattle.std.proofs.lemmas.Bool.{lt-ltb}
+use Rattle.std.proofs.lemmas.List.Folds.{list_any_at}
+use Rattle.serde_json.specs.Data.{Data, null, boolean, number, string, array, object, depth}
 use Rattle.serde_json.specs.Read.{max_depth, read}
 use Rattle.sig_json.specs.Canon.{IsCanonical}
-use Rattle.sig_json.specs.Json.{json_of}
+use Rattle.sig_json.specs.Json.{json_of, text_member}
+use Rattle.sig_json.specs.Members.{is_object}
 use Rattle.sig_json.specs.declared.limits.TheConstants.{TOKEN_BYTES}
 use Rattle.sig_json.proofs.CanonTexts.{compact_utf8}
 use Rattle.sig_json.proofs.ReadBack.{canon_reads}
@@ -16,15 +20,23 @@ use Rattle.sig_jws.specs.Hmac.{hmac_of}
 use Rattle.sig_jws.specs.declared.compact.Compact.{Compact}
 use Rattle.sig_jws.specs.declared.key.Key.{Key}
 use Rattle.sig_jws.proofs.SignedLemmas.{gives_back}
-use Rattle.sig_set.specs.declared.claims.Claims.{Claims}
+use Rattle.sig_subject.proofs.Passing.{Passes, passes_append}
+use Rattle.sig_event.specs.declared.claims.Claims.{Claims}
+use Rattle.sig_set.specs.declared.trust.Issuer.{Issuer}
 use Rattle.sig_set.specs.declared.trust.Trust.{Trust}
 use Rattle.sig_set.specs.declared.writing.WriteFault.TheVariants.{TooLong}
-use Rattle.sig_set.specs.FirstForm.{claims_in, claims_of, fits_header, header_in, payload_in}
-use Rattle.sig_set.specs.Judgement.{Valid, by_first_issuer, has_form, is_signed, judged}
-use Rattle.sig_set.specs.Laws.{AreJudgedValid, IsTrusted}
+use Rattle.sig_set.specs.Claims.{ClaimsAre, claims_in, content_checks}
+use Rattle.sig_set.specs.Header.{has_candidate, is_candidate, is_signed, is_verified, kid_in}
+use Rattle.sig_set.specs.Judgement.{Valid, audience_checks, bearer_checks, checks, claims_of, form_checks, header_in, issuer_checks, issuer_in, issuer_named, judged, judged_by, key_checks, keys_in, payload_in, token_in, trust_checks}
+use Rattle.sig_set.specs.Laws.{AreJudgedValid, IsNameOr, IsTrusted}
+use Rattle.sig_set.specs.Tests.{is_filled_and_wanted}
 use Rattle.sig_set.specs.Written.{IsProperClaims, header_of, header_text_of, payload_text_of, token_text}
 use Rattle.sig_set.proofs.ByteLemmas.{IsBytes-utf8}
 use Rattle.sig_set.proofs.ProperClaims.{ascii, bytes_same}
+use Rattle.sig_set.proofs.ReadsClaims.{content_passes, said_holds, said_read}
+
+none_is_some : {A P : Type 0} {a : A} → None ≡ Some a → P
+none_is_some h = cc
 
 -- ---- the header
 
@@ -39,10 +51,6 @@ header_shallow (Some kid) = omega arith
 
 header_spelled : (kid : Option (List ℕ)) → IfSome kid IsUtf8 → json_of (header_text_of kid) ≡ Some (header_of kid)
 header_spelled kid h = canon_reads (header_of kid) (header_canonical kid h) (header_shallow kid)
-
-header_fits : (kid : Option (List ℕ)) → fits_header kid (header_of kid) ≡ true
-header_fits None = refl
-header_fits (Some kid) = rw (bytes_same kid) refl
 
 -- ---- texts that spell a value
 
@@ -80,32 +88,124 @@ token_split claims key proper kid =
 
 -- ---- the checks
 
-form_holds : (trust : Trust) (claims : Claims) (key : Key) → IsProperClaims claims → IfSome key.kid IsUtf8 → IsTrusted trust claims key
-    → by_first_issuer (has_form trust.audience (Some claims.iss) (header_in (Some (held claims key))) (payload_in (Some (held claims key)))) trust.issuers ≡ true
-form_holds trust claims key proper kid trusted =
-    rw (trusted.first, trusted.first_key, trusted.audience, trusted.iss, header_spelled key.kid kid, header_fits key.kid, proper.spelled, proper.fits) refl
+-- a test that an element passes finds one
+finds : {A : Type 0} (test : A → Bool) (xs : List A) (x : A) → Contains xs x → test x ≡ true → list_any test xs ≡ true
+finds test xs x (i, small, is) h = list_any_at test xs i x small (ap test is ∙ h)
 
-is_signed_by : (trust : Trust) (claims : Claims) (key : Key) → IsTrusted trust claims key
-    → by_first_issuer (λ issuer k. is_signed k.bytes (Some (held claims key))) trust.issuers ≡ true
-is_signed_by trust claims key trusted = rw (trusted.first, trusted.first_key) (bytes_same (held claims key).mac)
+object_there : (name : List ℕ) (v : Data) (text : List ℕ) → text_member name v ≡ Some text → is_object v ≡ true
+object_there name null text h = none_is_some h
+object_there name (boolean b) text h = none_is_some h
+object_there name (number n) text h = none_is_some h
+object_there name (string s) text h = none_is_some h
+object_there name (array ds) text h = none_is_some h
+object_there name (object ms) text h = refl
 
-all_hold : (trust : Trust) (principal named : Option (List ℕ)) (text : List ℕ) (token : Compact) (claims : Claims)
-    → nat_le (length text) TOKEN_BYTES ≡ true → split_of text ≡ Ok token
-    → by_first_issuer (has_form trust.audience principal (header_in (Some token)) (payload_in (Some token))) trust.issuers ≡ true
-    → by_first_issuer (λ issuer key. is_signed key.bytes (Some token)) trust.issuers ≡ true
-    → claims_in (payload_in (Some token)) ≡ claims
-    → judged trust principal named text ≡ Valid claims
-all_hold trust principal named text token claims small split form mac same = rw (small, split, form, mac, same) refl
+-- what a payload names that says claims of a trusted issuer
+issuer_there : (trust : Trust) (claims : Claims) (key : Key) (v : Data) → ClaimsAre claims v → (t : IsTrusted trust claims key) → issuer_in trust.issuers (Some v) ≡ Some t.issuer
+issuer_there trust claims key v says t = ap (option_and_then (λ iss. issuer_named iss trust.issuers)) says.iss ∙ t.known
 
-pub judged_valid : AreJudgedValid
-judged_valid trust named claims key text proper kid trusted written =
-    let is = small_text (nat_le (length (token_text claims key)) TOKEN_BYTES) (token_text claims key) text (length (token_text claims key)) written in
-    subst (λ (t : List ℕ). judged trust (Some claims.iss) named t ≡ Valid claims) is.1
-    (all_hold trust (Some claims.iss) named (token_text claims key) (held claims key) claims is.0 (token_split claims key proper kid)
-    (form_holds trust claims key proper kid trusted) (is_signed_by trust claims key trusted)
-    (ap claims_in proper.spelled ∙ proper.same))
+keys_there : (trust : Trust) (claims : Claims) (key : Key) (v : Data) → ClaimsAre claims v → (t : IsTrusted trust claims key) → keys_in trust.issuers (Some v) ≡ t.issuer.keys
+keys_there trust claims key v says t = ap (λ o. unwrap_or (option_map (λ (i : Issuer). i.keys) o) []) (issuer_there trust claims key v says t)
+
+issuer_passes : (trust : Trust) (claims : Claims) (key : Key) (v : Data) → ClaimsAre claims v → IsTrusted trust claims key → Passes (issuer_checks trust.issuers (Some claims.iss) (Some v))
+issuer_passes trust claims key v says t = rw (issuer_there trust claims key v says t, says.iss, bytes_same claims.iss) refl
+
+fits_kid : (key : Key) (kid : Option (List ℕ)) → key.kid ≡ kid → is_candidate (kid_in (Some (header_of kid))) key ≡ true
+fits_kid key None is = refl
+fits_kid key (Some kid) is = rw is (bytes_same kid)
+
+key_passes : (claims : Claims) (key : Key) (keys : List Key) → Contains keys key → Passes (key_checks (Some (held claims key)) (Some (header_of key.kid)) keys)
+key_passes claims key keys among =
+    let kid = kid_in (Some (header_of key.kid)) in
+    let fits = fits_kid key key.kid refl in
+    let candidate : has_candidate kid keys ≡ true = finds (is_candidate kid) keys key among fits in
+    let signs : is_candidate kid key && is_signed (Some (held claims key)) key ≡ true = rw fits (bytes_same (held claims key).mac) in
+    let verified : is_verified (Some (held claims key)) kid keys ≡ true =
+    finds (λ (k : Key). is_candidate kid k && is_signed (Some (held claims key)) k) keys key among signs in
+    rw (candidate, verified) refl
+
+audience_passes : (trust : Trust) (claims : Claims) (key : Key) (v : Data) → ClaimsAre claims v → IsTrusted trust claims key → Passes (audience_checks trust.audience (Some v))
+audience_passes trust claims key v says t =
+    let listed = finds (bytes_eq trust.audience) claims.aud trust.audience t.audience (bytes_same trust.audience) in
+    rw (says.aud, listed) refl
+
+wanted_there : (named : Option (List ℕ)) (text : List ℕ) → IsNameOr named text → 0 < length text → is_filled_and_wanted named (Some text) ≡ true
+wanted_there None text h filled = lt-ltb 0 (length text) filled
+wanted_there (Some name) text h filled = rw (lt-ltb 0 (length text) filled, h name refl, bytes_same text) refl
+
+content_passes_for : (named : Option (List ℕ)) (claims : Claims) (v : Data) → ClaimsAre claims v → IsNameOr named claims.jti → Passes (content_checks named (Some v))
+content_passes_for named claims v says name =
+    let h = said_holds claims v says in
+    let jti = ap (is_filled_and_wanted named) says.jti ∙ wanted_there named claims.jti name says.identified in
+    content_passes named (Some v) (record {
+      jti = jti;
+      iat = h.iat;
+      lasting = h.lasting;
+      apart = h.apart;
+      subject = h.subject;
+      events = h.events;
+      each = h.each;
+    })
+
+trust_passes : (trust : Trust) (claims : Claims) (key : Key) (v : Data) → ClaimsAre claims v → IsTrusted trust claims key
+    → Passes (trust_checks trust (Some claims.iss) (Some (held claims key)) (Some (header_of key.kid)) (Some v))
+trust_passes trust claims key v says t =
+    let keys = keys_in trust.issuers (Some v) in
+    let among : Contains keys key = subst (λ (ks : List Key). Contains ks key) (sym (keys_there trust claims key v says t)) t.keys in
+    let signs = key_checks (Some (held claims key)) (Some (header_of key.kid)) keys in
+    let aims = audience_checks trust.audience (Some v) in
+    passes_append (issuer_checks trust.issuers (Some claims.iss) (Some v)) (signs ++ aims) (issuer_passes trust claims key v says t)
+    (passes_append signs aims (key_passes claims key keys among) (audience_passes trust claims key v says t))
+
+-- ---- the judgement of a text with these parts
+
+record Holds (bytes : List ℕ) (token : Compact) (head v : Data) : Type 0 where
+  pub splits : split_of bytes ≡ Ok token
+  pub header : header_in (Some token) ≡ Some head
+  pub payload : payload_in (Some token) ≡ Some v
+
+form_passes : (claims : Claims) (kid : Option (List ℕ)) (bytes : List ℕ) (token : Compact) (v : Data) → ClaimsAre claims v → Holds bytes token (header_of kid) v
+    → nat_le (length bytes) TOKEN_BYTES ≡ true → Passes (form_checks bytes)
+form_passes claims None bytes token v says h small =
+    rw (small, h.splits, h.header, h.payload, object_there (codes "iss") v claims.iss says.iss, says.iss) refl
+form_passes claims (Some kid) bytes token v says h small =
+    rw (small, h.splits, h.header, h.payload, object_there (codes "iss") v claims.iss says.iss, says.iss) refl
+
+all_pass : (trust : Trust) (principal named : Option (List ℕ)) (iss bytes : List ℕ) (token : Compact) (header v : Data) → Holds bytes token header v → principal ≡ Some iss
+    → Passes (form_checks bytes) → Passes (trust_checks trust principal (Some token) (Some header) (Some v)) → Passes (content_checks named (Some v))
+    → Passes (checks trust principal named bytes)
+all_pass trust principal named iss bytes token header v h somebody form trusted content =
+    let parts : Passes (trust_checks trust principal (token_in bytes) (header_in (token_in bytes)) (payload_in (token_in bytes))) =
+    rw (h.splits, h.header, h.payload) trusted in
+    let last : Passes (content_checks named (payload_in (token_in bytes))) = rw (h.splits, h.payload) content in
+    let trusts = trust_checks trust principal (token_in bytes) (header_in (token_in bytes)) (payload_in (token_in bytes)) in
+    let contents = content_checks named (payload_in (token_in bytes)) in
+    passes_append (bearer_checks principal) (form_checks bytes ++ (trusts ++ contents)) (rw somebody refl)
+    (passes_append (form_checks bytes) (trusts ++ contents) form (passes_append trusts contents parts last))
+
+token_holds : (claims : Claims) (key : Key) (proper : IsProperClaims claims) → IfSome key.kid IsUtf8 → Holds (token_text claims key) (held claims key) (header_of key.kid) proper.value
+token_holds claims key proper kid = record {
+  splits = token_split claims key proper kid;
+  header = header_spelled key.kid kid;
+  payload = proper.spelled;
+}
 
 -- what is written has the claims that it was written of
 pub written_claims : (claims : Claims) (key : Key) → IsProperClaims claims → IfSome key.kid IsUtf8 → claims_of (token_text claims key) ≡ claims
 written_claims claims key proper kid =
-    ap (λ r. claims_in (payload_in (result_ok r))) (token_split claims key proper kid) ∙ ap claims_in proper.spelled ∙ proper.same
+    ap (λ r. claims_in (payload_in (result_ok r))) (token_split claims key proper kid) ∙ ap claims_in proper.spelled ∙ said_read claims proper.value proper.says
+
+judged_token : (trust : Trust) (named : Option (List ℕ)) (claims : Claims) (key : Key) → IsProperClaims claims → IfSome key.kid IsUtf8 → IsTrusted trust claims key → IsNameOr named claims.jti
+    → nat_le (length (token_text claims key)) TOKEN_BYTES ≡ true → judged trust (Some claims.iss) named (token_text claims key) ≡ Valid claims
+judged_token trust named claims key proper kid trusted name small =
+    let holds = token_holds claims key proper kid in
+    let form = form_passes claims key.kid (token_text claims key) (held claims key) proper.value proper.says holds small in
+    let pass : Passes (checks trust (Some claims.iss) named (token_text claims key)) =
+    all_pass trust (Some claims.iss) named claims.iss (token_text claims key) (held claims key) (header_of key.kid) proper.value holds refl form
+    (trust_passes trust claims key proper.value proper.says trusted) (content_passes_for named claims proper.value proper.says name) in
+    ap (λ o. judged_by o (claims_of (token_text claims key))) pass ∙ ap Valid (written_claims claims key proper kid)
+
+pub judged_valid : AreJudgedValid
+judged_valid trust named claims key text proper kid trusted name written =
+    let is = small_text (nat_le (length (token_text claims key)) TOKEN_BYTES) (token_text claims key) text (length (token_text claims key)) written in
+    subst (λ (t : List ℕ). judged trust (Some claims.iss) named t ≡ Valid claims) is.1 (judged_token trust named claims key proper kid trusted name is.0)

@@ -1,6 +1,11 @@
-pub mod JudgementLemmas
-pub mod JournalLemmas
+pub mod Collected
+pub mod Chains
+pub mod Contents
+pub mod Judged
 pub mod ByteLemmas
+pub mod WholePayloads
+pub mod ReadsClaims
 pub mod ProperClaims
 pub mod JudgedValid
+pub mod ValidRead
 pub mod ShortTokens

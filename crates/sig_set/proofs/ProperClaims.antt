@@ -1,18 +1,29 @@
--- Claims in UTF-8 are proper, since the text of their payload is canonical.
-use Rattle.std.proofs.Common.{◌≡◌, ℕ, ◌≤◌, List, true, IsUtf8, Some, refl, arith}
-use Rattle.std.specs.Prelude.{bytes_eq, length}
-use Rattle.std.proofs.lemmas.Bool.{le-leb, lt-ltb}
+-- Claims of proper parts are proper: the text of their payload is canonical, and the payload says them.
+use Rattle.std.proofs.Common.{◌≡◌, ℕ, suc, ◌||◌, List, [], ◌∷◌, map, All, Bool, true, false, IsUtf8, Some, refl, sym, ap, ◌∙◌, subst, arith}
+use Rattle.std.specs.Prelude.{bytes_eq}
+use Rattle.std.proofs.lemmas.Bool.{le-leb}
 use Rattle.std.proofs.lemmas.Slice.Eq.{bytes_eq-Decides}
 use Rattle.json.proofs.Printed.Utf8.{are_ascii, IsUtf8-are_ascii}
-use Rattle.serde_json.specs.Data.{depth}
-use Rattle.serde_json.specs.Read.{max_depth}
-use Rattle.sig_json.specs.Canon.{IsCanonical}
+use Rattle.serde_json.specs.Data.{Data, Num, unsigned, negative, float, null, boolean, number, string, array, object, Items, no_items, item, Members, no_members, member}
+use Rattle.serde_json.specs.View.{items_of}
+use Rattle.serde_json.specs.Written.{compact_text, has_float, items_have_float, members_have_float}
+use Rattle.sig_json.specs.Canon.{IsWhole, IsCanonical, AreCanonical, MembersAreCanonical}
 use Rattle.sig_json.specs.declared.limits.TheConstants.{LAST_NUMBER}
 use Rattle.sig_json.proofs.ReadBack.{canon_reads}
-use Rattle.sig_set.specs.declared.claims.Claims.{Claims}
-use Rattle.sig_set.specs.FirstForm.{claims_in, fits_payload}
-use Rattle.sig_set.specs.Laws.{AreProperInUtf8, HasTexts}
-use Rattle.sig_set.specs.Written.{payload_of}
+use Rattle.sig_json.proofs.Spelled.{spelled_in_order, spelled_depth}
+use Rattle.sig_subject.specs.declared.subject.Subject.{Subject}
+use Rattle.sig_subject.specs.Subjects.{SubjectIs}
+use Rattle.sig_subject.specs.Written.{IsProperSubject, subject_data, subject_text}
+use Rattle.sig_subject.proofs.ProperRead as subjects
+use Rattle.sig_subject.proofs.WrittenBack.{writes_back}
+use Rattle.sig_event.specs.declared.claims.Claims.{Claims}
+use Rattle.sig_event.specs.declared.event.Event.{Event}
+use Rattle.sig_event.specs.Events as events
+use Rattle.sig_event.proofs.CanonicalEvents as written_events
+use Rattle.sig_event.proofs.WrittenEvents.{written_is}
+use Rattle.sig_set.specs.Claims.{ClaimsAre, EventsAre, audience_of, one_before, texts_of}
+use Rattle.sig_set.specs.Laws.{AreProperByParts, HasParts}
+use Rattle.sig_set.specs.Written.{audience_data, payload_of, put_events, without_fraction}
 
 pub bytes_same : (bytes : List ℕ) → bytes_eq bytes bytes ≡ true
 bytes_same bytes = (bytes_eq-Decides bytes bytes).1 refl
@@ -20,14 +31,83 @@ bytes_same bytes = (bytes_eq-Decides bytes bytes).1 refl
 pub ascii : (text : List ℕ) → are_ascii text ≡ true → IsUtf8 text
 ascii text h = IsUtf8-are_ascii text h
 
-canonical : (claims : Claims) → HasTexts claims → IsCanonical (payload_of claims)
-canonical claims h = (
+-- ---- no fraction stands in a canonical value
+
+neither : (a b : Bool) → a ≡ false → b ≡ false → a || b ≡ false
+neither a b h k = rw (h, k) refl
+
+whole_number : (n : Num) → IsWhole n → has_float (number n) ≡ false
+whole_number (unsigned n) h = refl
+whole_number (negative n) h = refl
+whole_number (float x) h = absurd h
+
+mutual
+  whole : (d : Data) → IsCanonical d → has_float d ≡ false
+  whole null h = refl
+  whole (boolean b) h = refl
+  whole (number n) h = whole_number n h
+  whole (string s) h = refl
+  whole (array ds) h = whole_items ds h
+  whole (object ms) h = whole_members ms h
+
+  whole_items : (ds : Items) → AreCanonical ds → items_have_float ds ≡ false
+  whole_items no_items h = refl
+  whole_items (item d ds) h = neither (has_float d) (items_have_float ds) (whole d h.0) (whole_items ds h.1)
+
+  whole_members : (ms : Members) → MembersAreCanonical ms → members_have_float ms ≡ false
+  whole_members no_members h = refl
+  whole_members (member k d ms) h = neither (has_float d) (members_have_float ms) (whole d h.1) (whole_members ms h.3)
+
+kept : (d : Data) → IsCanonical d → without_fraction d ≡ d
+kept d h = rw (whole d h) refl
+
+-- ---- the audience
+
+rest_utf8 : (text : List ℕ) (texts : List (List ℕ)) → All IsUtf8 (text ∷ texts) → All IsUtf8 texts
+rest_utf8 text texts h k d small = h (suc k) d (omega arith)
+
+texts_canonical : (texts : List (List ℕ)) → All IsUtf8 texts → AreCanonical (items_of (map string texts))
+texts_canonical [] h = tt
+texts_canonical (text ∷ texts) h = (h 0 [] (omega arith), texts_canonical texts (rest_utf8 text texts h))
+
+audience_canonical : (texts : List (List ℕ)) → All IsUtf8 texts → IsCanonical (audience_data texts)
+audience_canonical [] h = tt
+audience_canonical (text ∷ []) h = h 0 [] (omega arith)
+audience_canonical (text ∷ other ∷ texts) h = texts_canonical (text ∷ other ∷ texts) h
+
+texts_back : (texts : List (List ℕ)) → texts_of (items_of (map string texts)) ≡ Some texts
+texts_back [] = refl
+texts_back (text ∷ texts) = ap (one_before (Some text)) (texts_back texts)
+
+audience_back : (texts : List (List ℕ)) → audience_of (audience_data texts) ≡ Some texts
+audience_back [] = refl
+audience_back (text ∷ []) = refl
+audience_back (text ∷ other ∷ texts) = texts_back (text ∷ other ∷ texts)
+
+-- ---- the payload is canonical
+
+subject_canonical : (claims : Claims) (e : Event) → HasParts claims e → IsCanonical (without_fraction (subject_data claims.subject))
+subject_canonical claims e h =
+    let it = subjects.writes_canonical claims.subject h.subject in
+    subst IsCanonical (sym (kept (subject_data claims.subject) it)) it
+
+event_canonical : (claims : Claims) (e : Event) → HasParts claims e → IsCanonical (without_fraction (events.payload_of e))
+event_canonical claims e h =
+    let it = written_events.writes_canonical e claims.subject h.event in
+    subst IsCanonical (sym (kept (events.payload_of e) it)) it
+
+events_canonical : (claims : Claims) (e : Event) → HasParts claims e → MembersAreCanonical (put_events claims.events no_members)
+events_canonical claims e h =
+    subst (λ (es : List Event). MembersAreCanonical (put_events es no_members)) (sym h.one) (h.uri, event_canonical claims e h, tt, tt)
+
+canonical : (claims : Claims) (e : Event) → HasParts claims e → IsCanonical (payload_of claims)
+canonical claims e h = (
   ascii _ refl,
-  h.aud,
+  audience_canonical claims.aud h.aud,
   (refl, (refl, (refl, (refl, (refl, tt))))),
   (
     ascii _ refl,
-    (ascii _ refl, tt, tt, tt),
+    events_canonical claims e h,
     (refl, (refl, (refl, (refl, tt)))),
     (
       ascii _ refl,
@@ -37,37 +117,46 @@ canonical claims h = (
         ascii _ refl,
         h.iss,
         (refl, (refl, tt)),
-        (
-          ascii _ refl,
-          h.jti,
-          (refl, tt),
-          (ascii _ refl, (ascii _ refl, ascii _ refl, (refl, tt), (ascii _ refl, h.subject, tt, tt)), tt, tt),
-        ),
+        (ascii _ refl, h.jti, (refl, tt), (ascii _ refl, subject_canonical claims e h, tt, tt)),
       ),
     ),
   ),
 )
 
-pub shallow : (claims : Claims) → depth (payload_of claims) ≤ max_depth
-shallow claims = omega arith
+-- ---- the payload says the claims
 
-same : (claims : Claims) → claims.iat ≤ LAST_NUMBER → claims_in (Some (payload_of claims)) ≡ claims
-same claims taken = rw (le-leb claims.iat LAST_NUMBER taken) refl
+subject_is : (s : Subject) → IsProperSubject s → SubjectIs s (without_fraction (subject_data s))
+subject_is s h =
+    let back : subject_data s ≡ h.0 = writes_back (subject_text s) s h.0 h.1 h.2 in
+    subst (SubjectIs s) (sym (kept (subject_data s) (subjects.writes_canonical s h) ∙ back)) h.2
 
-fits : (claims : Claims) → HasTexts claims → fits_payload claims.aud claims.iss (Some claims.iss) (payload_of claims) ≡ true
-fits claims h =
-    rw (
-      bytes_same claims.aud,
-      bytes_same claims.iss,
-      lt-ltb 0 (length claims.jti) h.identified,
-      le-leb claims.iat LAST_NUMBER h.taken,
-      lt-ltb 0 (length claims.subject) h.about,
-    ) refl
+event_is : (e : Event) (s : Subject) → events.IsProperEvent e s → events.IsEvent e (events.uri_of e) (without_fraction (events.payload_of e)) s
+event_is e s h =
+    let text = compact_text (events.payload_of e) in
+    let it = written_is e (events.uri_of e) h.0 s (spelled_in_order text h.0 h.1) (spelled_depth text h.0 h.1) h.2 in
+    subst (λ d. events.IsEvent e (events.uri_of e) d s) (sym (kept (events.payload_of e) (written_events.writes_canonical e s h))) it
 
-pub proper_in_utf8 : AreProperInUtf8
-proper_in_utf8 claims h = record {
+says : (claims : Claims) (e : Event) → HasParts claims e → ClaimsAre claims (payload_of claims)
+says claims e h = record {
+  iss = refl;
+  aud = audience_back claims.aud;
+  jti = refl;
+  identified = h.identified;
+  iat = rw (le-leb claims.iat LAST_NUMBER h.taken) refl;
+  lasting = refl;
+  apart = refl;
+  named = without_fraction (subject_data claims.subject);
+  names = refl;
+  subject = subject_is claims.subject h.subject;
+  members = put_events claims.events no_members;
+  lists = refl;
+  happened = rw h.one (omega arith);
+  events = subst (λ (es : List Event). EventsAre es (put_events es no_members) claims.subject) (sym h.one) (event_is e claims.subject h.event, tt);
+}
+
+pub proper_by_parts : AreProperByParts
+proper_by_parts claims e h = record {
   value = payload_of claims;
-  spelled = canon_reads (payload_of claims) (canonical claims h) (shallow claims);
-  same = same claims h.taken;
-  fits = fits claims h;
+  spelled = canon_reads (payload_of claims) (canonical claims e h) h.nests;
+  says = says claims e h;
 }

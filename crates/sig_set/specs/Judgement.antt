@@ -1,71 +1,145 @@
--- The judgement of a token: a list of checks over its whole text, of which the first that fails decides.
-use Rattle.std.specs.Prelude.{ℕ, List, [], ◌∷◌, Bool, false, ◌&&◌, Option, Some, None, is_ok, length, nat_le, Result, Ok, Err}
+-- The judgement of a token: a list of checks over its whole text, of which the first that fails decides (RFC 8417, section
+-- 2; RFC 7515, section 5.2; codes of RFC 8935, section 2.4).
+use Rattle.std.specs.Prelude.{ℕ, List, [], ◌∷◌, ◌++◌, Bool, false, not, Option, Some, None, bytes_eq, codes, is_ok, is_some, length, nat_le, option_and_then, option_map, unwrap_or, if◌then◌else◌, Result, Ok, Err}
 use Rattle.std.specs.Result.{result_ok}
-use Rattle.std.specs.Prelude.{bytes_eq}
+use Rattle.std.specs.List.{list_any}
 use Rattle.serde_json.specs.Data.{Data}
 use Rattle.sig_json.specs.Checks.{Check, first_failing}
+use Rattle.sig_json.specs.Json.{json_of, member_of, text_member}
+use Rattle.sig_json.specs.Members.{is_object}
 use Rattle.sig_json.specs.declared.limits.TheConstants.{TOKEN_BYTES}
 use Rattle.sig_jws.specs.Compact.{split_of}
-use Rattle.sig_jws.specs.Hmac.{hmac_of}
 use Rattle.sig_jws.specs.declared.compact.Compact.{Compact}
 use Rattle.sig_jws.specs.declared.key.Key.{Key}
-use Rattle.sig_set.specs.declared.claims.Claims.{Claims}
+use Rattle.sig_event.specs.declared.claims.Claims.{Claims}
 use Rattle.sig_set.specs.declared.trust.Issuer.{Issuer}
 use Rattle.sig_set.specs.declared.trust.Trust.{Trust}
 use Rattle.sig_set.specs.declared.refusal.Code.{Code}
-use Rattle.sig_set.specs.declared.refusal.Code.TheVariants.{InvalidRequest, InvalidKey}
+use Rattle.sig_set.specs.declared.refusal.Code.TheVariants.{InvalidRequest, InvalidKey, InvalidIssuer, InvalidAudience, AuthenticationFailed, AccessDenied}
 use Rattle.sig_set.specs.declared.refusal.Spot.{Spot}
-use Rattle.sig_set.specs.declared.refusal.Spot.TheVariants.{Compact as AtCompact, Unbuilt, Mac}
+use Rattle.sig_set.specs.declared.refusal.Spot.TheVariants as spot
 use Rattle.sig_set.specs.declared.refusal.Refusal.{Refusal}
 use Rattle.sig_set.specs.declared.refusal.Refusal.TheVariants.{Coded}
 use Rattle.sig_set.specs.Checks.{Fault, refused_unless}
-use Rattle.sig_set.specs.FirstForm.{fits_header, fits_payload, header_in, payload_in, where_there, claims_of}
+use Rattle.sig_set.specs.Claims.{audience_in, claims_in, content_checks, text_in}
+use Rattle.sig_set.specs.Header.{has_candidate, is_verified, kid_in, says_token}
+use Rattle.sig_set.specs.Tests.{is_text, where_there}
 
 -- a token is valid with these claims, or refused
 pub data Judgement : Type 0 where
   Valid : Claims → Judgement
   Refused : Code → Spot → Judgement
 
--- a test of the first key of an issuer
-abbrev pub by_first_key : (Key → Bool) → List Key → Bool
-by_first_key test [] = false
-by_first_key test (key ∷ keys) = test key
+-- ---- what a text holds
 
--- a test of the first issuer and its first key: so far one issuer with one key is trusted
-abbrev pub by_first_issuer : (Issuer → Key → Bool) → List Issuer → Bool
-by_first_issuer test [] = false
-by_first_issuer test (issuer ∷ issuers) = by_first_key (test issuer) issuer.keys
+-- the compact form, where the text has it
+abbrev pub token_in : List ℕ → Option Compact
+token_in bytes = result_ok (split_of bytes)
 
--- header and payload are there and have the one form that is taken, for this issuer and key
-abbrev pub has_form : List ℕ → Option (List ℕ) → Option Data → Option Data → Issuer → Key → Bool
-has_form audience principal header payload issuer key =
-    where_there (fits_header key.kid) header && where_there (fits_payload audience issuer.iss principal) payload
+-- the header and the payload of a compact form, where they are JSON
+abbrev pub header_in : Option Compact → Option Data
+header_in token = option_and_then (λ (c : Compact). json_of c.header) token
 
--- the MAC of a compact form is the one under this key (RFC 7515, section 5.2)
-abbrev pub is_signed : List ℕ → Option Compact → Bool
-is_signed key None = false
-is_signed key (Some c) = bytes_eq c.mac (hmac_of key c.input)
+abbrev pub payload_in : Option Compact → Option Data
+payload_in token = option_and_then (λ (c : Compact). json_of c.payload) token
 
--- the checks of a compact form: its header and payload, and then its MAC
-abbrev pub form_checks : Trust → Option (List ℕ) → Option Compact → List (Check Fault)
-form_checks trust principal token =
-    refused_unless InvalidRequest Unbuilt
-    (by_first_issuer (has_form trust.audience principal (header_in token) (payload_in token)) trust.issuers)
-    ∷ refused_unless InvalidKey Mac (by_first_issuer (λ issuer key. is_signed key.bytes token) trust.issuers)
+-- ---- whom a receiver trusts
+
+-- the issuer of this name
+abbrev pub issuer_named : List ℕ → List Issuer → Option Issuer
+issuer_named iss [] = None
+issuer_named iss (issuer ∷ issuers) = if bytes_eq issuer.iss iss then Some issuer else issuer_named iss issuers
+
+-- the issuer that a payload names
+abbrev pub issuer_in : List Issuer → Option Data → Option Issuer
+issuer_in issuers payload = option_and_then (λ iss. issuer_named iss issuers) (text_in (codes "iss") payload)
+
+abbrev pub keys_in : List Issuer → Option Data → List Key
+keys_in issuers payload = unwrap_or (option_map (λ (i : Issuer). i.keys) (issuer_in issuers payload)) []
+
+-- the principal is this issuer
+abbrev pub speaks_for : Option (List ℕ) → Option (List ℕ) → Bool
+speaks_for principal None = false
+speaks_for principal (Some iss) = is_text iss principal
+
+-- ---- the checks, in their order
+
+-- a bearer that names somebody brings it (RFC 8935, section 2.4)
+abbrev pub bearer_checks : Option (List ℕ) → List (Check Fault)
+bearer_checks principal = refused_unless AuthenticationFailed spot.Bearer (is_some principal) ∷ []
+
+-- the text: its length, and its compact form
+abbrev pub text_checks : List ℕ → List (Check Fault)
+text_checks bytes =
+    refused_unless InvalidRequest spot.Length (nat_le (length bytes) TOKEN_BYTES)
+    ∷ refused_unless InvalidRequest spot.Compact (is_ok (split_of bytes))
     ∷ []
 
--- the checks in their order; the name under which a poll listed the token isn't looked at yet
+-- the header: an object, that of a security event token, and without critical extensions (RFC 7515, section 4.1.11)
+abbrev pub header_checks : Option Data → List (Check Fault)
+header_checks header =
+    refused_unless InvalidRequest spot.Header (where_there is_object header)
+    ∷ refused_unless InvalidRequest spot.Typ (says_token header)
+    ∷ refused_unless InvalidRequest spot.Crit (not (is_some (option_and_then (member_of (codes "crit")) header)))
+    ∷ []
+
+-- the payload: an object with an issuer
+abbrev pub payload_checks : Option Data → List (Check Fault)
+payload_checks payload =
+    refused_unless InvalidRequest spot.Payload (where_there is_object payload)
+    ∷ refused_unless InvalidRequest spot.Iss (is_some (text_in (codes "iss") payload))
+    ∷ []
+
+-- the form: the text, and what it holds
+abbrev pub form_checks : List ℕ → List (Check Fault)
+form_checks bytes =
+    text_checks bytes ++ (header_checks (header_in (token_in bytes)) ++ payload_checks (payload_in (token_in bytes)))
+
+-- the issuer: configured, and the one for whom the bearer speaks
+abbrev pub issuer_checks : List Issuer → Option (List ℕ) → Option Data → List (Check Fault)
+issuer_checks issuers principal payload =
+    refused_unless InvalidIssuer spot.Iss (is_some (issuer_in issuers payload))
+    ∷ refused_unless AccessDenied spot.Iss (speaks_for principal (text_in (codes "iss") payload))
+    ∷ []
+
+-- the key: HS256 (RFC 7518, section 3.2), a key that may have signed it, and one of those that did
+abbrev pub key_checks : Option Compact → Option Data → List Key → List (Check Fault)
+key_checks token header keys =
+    refused_unless InvalidKey spot.Alg (is_text (codes "HS256") (option_and_then (text_member (codes "alg")) header))
+    ∷ refused_unless InvalidKey spot.Kid (has_candidate (kid_in header) keys)
+    ∷ refused_unless InvalidKey spot.Mac (is_verified token (kid_in header) keys)
+    ∷ []
+
+-- the audience is the receiver, or a list of texts that holds it
+abbrev pub audience_checks : List ℕ → Option Data → List (Check Fault)
+audience_checks audience payload =
+    refused_unless InvalidAudience spot.Aud (where_there (list_any (bytes_eq audience)) (audience_in payload)) ∷ []
+
+-- the checks of a token's parts behind its form
+abbrev pub trust_checks : Trust → Option (List ℕ) → Option Compact → Option Data → Option Data → List (Check Fault)
+trust_checks trust principal token header payload =
+    issuer_checks trust.issuers principal payload
+    ++ (key_checks token header (keys_in trust.issuers payload) ++ audience_checks trust.audience payload)
+
+-- by trust, principal, the identifier under which a poll listed the token, and its text
 abbrev pub checks : Trust → Option (List ℕ) → Option (List ℕ) → List ℕ → List (Check Fault)
 checks trust principal named bytes =
-    refused_unless InvalidRequest Unbuilt (nat_le (length bytes) TOKEN_BYTES)
-    ∷ refused_unless InvalidRequest AtCompact (is_ok (split_of bytes))
-    ∷ form_checks trust principal (result_ok (split_of bytes))
+    bearer_checks principal
+    ++ (form_checks bytes
+    ++ (trust_checks trust principal (token_in bytes) (header_in (token_in bytes)) (payload_in (token_in bytes))
+    ++ content_checks named (payload_in (token_in bytes))))
+
+-- ---- the judgement
+
+-- the claims of a token's text
+abbrev pub claims_of : List ℕ → Claims
+claims_of bytes = claims_in (payload_in (token_in bytes))
 
 abbrev pub judged_by : Option Fault → Claims → Judgement
 judged_by None claims = Valid claims
 judged_by (Some fault) claims = Refused fault.code fault.spot
 
--- the judgement: valid with its claims where every check holds, else refused by the first that fails
+-- valid with its claims where every check holds, else refused by the first that fails
 abbrev pub judged : Trust → Option (List ℕ) → Option (List ℕ) → List ℕ → Judgement
 judged trust principal named bytes = judged_by (first_failing (checks trust principal named bytes)) (claims_of bytes)
 

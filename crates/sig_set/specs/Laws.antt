@@ -1,44 +1,61 @@
--- What holds of tokens that are written.
-use Rattle.std.specs.Prelude.{◌≡◌, ◌<◌, ◌≤◌, ℕ, List, ◌∷◌, true, nat_eq, Option, Some, IfSome, IsUtf8, codes, length, Ok}
+-- What holds of tokens that are written, and of tokens that are read.
+use Rattle.std.specs.Prelude.{◌≡◌, ◌<◌, ◌≤◌, ℕ, List, [], ◌∷◌, true, nat_eq, All, Contains, Option, Some, IfSome, IsUtf8, codes, length, Ok}
 use Rattle.std.specs.List.{list_all, list_any}
+use Rattle.serde_json.specs.Data.{depth}
+use Rattle.serde_json.specs.Read.{max_depth}
 use Rattle.sig_json.specs.declared.limits.TheConstants.{KEY_NAME_BYTES, LAST_NUMBER, PAYLOAD_BYTES}
 use Rattle.sig_jws.specs.declared.key.Key.{Key}
-use Rattle.sig_set.specs.declared.claims.Claims.{Claims}
+use Rattle.sig_subject.specs.Written.{IsProperSubject}
+use Rattle.sig_event.specs.Events.{IsProperEvent, uri_of}
+use Rattle.sig_event.specs.declared.claims.Claims.{Claims}
+use Rattle.sig_event.specs.declared.event.Event.{Event}
 use Rattle.sig_set.specs.declared.trust.Issuer.{Issuer}
 use Rattle.sig_set.specs.declared.trust.Trust.{Trust}
-use Rattle.sig_set.specs.Judgement.{Valid, judged}
-use Rattle.sig_set.specs.Written.{IsProperClaims, payload_text_of, token_text, written_of}
+use Rattle.sig_set.specs.Judgement.{Valid, issuer_named, judged}
+use Rattle.sig_set.specs.Reading.{claims_read}
+use Rattle.sig_set.specs.Written.{IsProperClaims, payload_of, payload_text_of, token_text, written_of}
 
--- texts in UTF-8, of which the identifier and the subject aren't empty, and a time that is taken
-pub record HasTexts (claims : Claims) : Type 0 where
+-- claims with one event: texts in UTF-8, an identifier that isn't empty, a time that is taken, a proper subject, a proper
+-- event about it, and a payload that nests no deeper than is read
+pub record HasParts (claims : Claims) (e : Event) : Type 0 where
   pub iss : IsUtf8 claims.iss
   pub jti : IsUtf8 claims.jti
-  pub aud : IsUtf8 claims.aud
-  pub subject : IsUtf8 claims.subject
   pub identified : 0 < length claims.jti
-  pub about : 0 < length claims.subject
   pub taken : claims.iat ≤ LAST_NUMBER
+  pub aud : All IsUtf8 claims.aud
+  pub subject : IsProperSubject claims.subject
+  pub one : claims.events ≡ e ∷ []
+  pub uri : IsUtf8 (uri_of e)
+  pub event : IsProperEvent e claims.subject
+  pub nests : depth (payload_of claims) ≤ max_depth
 
 -- such claims are proper
-abbrev pub AreProperInUtf8 : Type 0
-AreProperInUtf8 = (claims : Claims) → HasTexts claims → IsProperClaims claims
+abbrev pub AreProperByParts : Type 0
+AreProperByParts = (claims : Claims) (e : Event) → HasParts claims e → IsProperClaims claims
 
--- the claims are for the trust's own name, and by its first issuer, whose first key is this one
+-- the claims are for the trust's own name, and by an issuer of it, one of whose keys this is
 pub record IsTrusted (trust : Trust) (claims : Claims) (key : Key) : Type 0 where
-  pub audience : trust.audience ≡ claims.aud
+  pub audience : Contains claims.aud trust.audience
   pub issuer : Issuer
-  pub issuers : List Issuer
-  pub first : trust.issuers ≡ issuer ∷ issuers
-  pub iss : issuer.iss ≡ claims.iss
-  pub keys : List Key
-  pub first_key : issuer.keys ≡ key ∷ keys
+  pub known : issuer_named claims.iss trust.issuers ≡ Some issuer
+  pub keys : Contains issuer.keys key
 
--- what is written of proper claims is valid with these claims, for the issuer and under any name
+-- no name, or this one
+abbrev pub IsNameOr : Option (List ℕ) → List ℕ → Type 0
+IsNameOr named jti = (name : List ℕ) → named ≡ Some name → name ≡ jti
+
+-- what is written of proper claims is valid with these claims, for the issuer and under their identifier or no name
 abbrev pub AreJudgedValid : Type 0
 AreJudgedValid =
     (trust : Trust) (named : Option (List ℕ)) (claims : Claims) (key : Key) (text : List ℕ)
-    → IsProperClaims claims → IfSome key.kid IsUtf8 → IsTrusted trust claims key
+    → IsProperClaims claims → IfSome key.kid IsUtf8 → IsTrusted trust claims key → IsNameOr named claims.jti
     → written_of claims key ≡ Ok text → judged trust (Some claims.iss) named text ≡ Valid claims
+
+-- the claims of a token that is valid are read of its text
+abbrev pub AreRead : Type 0
+AreRead =
+    (trust : Trust) (principal named : Option (List ℕ)) (text : List ℕ) (claims : Claims)
+    → judged trust principal named text ≡ Valid claims → claims_read text ≡ Ok claims
 
 -- the characters of a key's name
 abbrev pub name_bytes : List ℕ

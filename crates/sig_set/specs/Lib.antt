@@ -1,11 +1,10 @@
 pub mod Checks
-pub mod FirstForm
-pub mod Judgement
-pub mod Pair
-pub mod Journal
-pub mod Table
-pub mod Printed
 pub mod Spelled
-pub mod Receiver
+pub mod Tests
+pub mod Header
+pub mod Claims
+pub mod Judgement
+pub mod Reading
 pub mod Written
 pub mod Laws
+pub use Rattle.sig_json.specs.Answers

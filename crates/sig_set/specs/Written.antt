@@ -1,30 +1,44 @@
--- How claims are written as a token, and which claims are proper: the one form that is taken so far (RFC 8417, section 2; RFC 7515, section 7.1).
-use Rattle.std.specs.Prelude.{◌≡◌, ℕ, List, Option, Some, None, codes, length, nat_le, true, if◌then◌else◌, Result, Ok, Err}
-use Rattle.serde_json.specs.Data.{Data, string, number, unsigned, object, Members, no_members, member}
-use Rattle.serde_json.specs.Written.{compact_text}
+-- How claims are written as a token, and which claims are proper (RFC 8417, section 2; RFC 7515, section 7.1).
+use Rattle.std.specs.Prelude.{◌≡◌, ℕ, List, [], ◌∷◌, Option, Some, None, codes, length, map, nat_le, if◌then◌else◌, Result, Ok, Err}
+use Rattle.serde_json.specs.Data.{Data, null, array, string, number, unsigned, object, Members, no_members, member, put}
+use Rattle.serde_json.specs.View.{items_of}
+use Rattle.serde_json.specs.Written.{compact_text, has_float}
 use Rattle.sig_json.specs.Json.{json_of}
 use Rattle.sig_json.specs.declared.limits.TheConstants.{TOKEN_BYTES}
 use Rattle.sig_jws.specs.Compact.{signed}
 use Rattle.sig_jws.specs.declared.key.Key.{Key}
-use Rattle.sig_set.specs.declared.claims.Claims.{Claims}
+use Rattle.sig_subject.specs.Written.{subject_data}
+use Rattle.sig_event.specs.declared.claims.Claims.{Claims}
+use Rattle.sig_event.specs.declared.event.Event.{Event}
+use Rattle.sig_event.specs.Events as events
 use Rattle.sig_set.specs.declared.writing.WriteFault.{WriteFault}
 use Rattle.sig_set.specs.declared.writing.WriteFault.TheVariants.{TooLong}
-use Rattle.sig_set.specs.FirstForm.{claims_in, fits_payload, session_revoked}
-use Rattle.sig_set.specs.Printed.{subject_data}
+use Rattle.sig_set.specs.Claims.{ClaimsAre}
 
--- the one event, with nothing in it (CAEP 1.0, section 3.1)
-abbrev pub events_data : Data
-events_data = object (member session_revoked (object no_members) no_members)
+-- a value in which no fraction stands; one with a fraction, which nothing proper has, is written as null
+abbrev pub without_fraction : Data → Data
+without_fraction d = if has_float d then null else d
+
+-- the audience: a text where there is one, else a list (RFC 7519, section 4.1.3)
+abbrev pub audience_data : List (List ℕ) → Data
+audience_data [] = array (items_of [])
+audience_data (text ∷ []) = string text
+audience_data (text ∷ other ∷ texts) = array (items_of (map string (text ∷ other ∷ texts)))
+
+-- events put under their URIs, one after another
+abbrev pub put_events : List Event → Members → Members
+put_events [] members = members
+put_events (e ∷ es) members = put_events es (put (events.uri_of e) (without_fraction (events.payload_of e)) members)
 
 -- the payload (RFC 8417, section 2.2), with its members in byte order
 abbrev pub payload_of : Claims → Data
 payload_of claims = object
-    (member (codes "aud") (string claims.aud)
-    (member (codes "events") events_data
+    (member (codes "aud") (audience_data claims.aud)
+    (member (codes "events") (object (put_events claims.events no_members))
     (member (codes "iat") (number (unsigned claims.iat))
     (member (codes "iss") (string claims.iss)
     (member (codes "jti") (string claims.jti)
-    (member (codes "sub_id") (subject_data claims.subject) no_members))))))
+    (member (codes "sub_id") (without_fraction (subject_data claims.subject)) no_members))))))
 
 abbrev pub payload_text_of : Claims → List ℕ
 payload_text_of claims = compact_text (payload_of claims)
@@ -57,9 +71,8 @@ within_limit text = if nat_le (length text) TOKEN_BYTES then Ok text else Err (T
 abbrev pub written_of : Claims → Key → Result (List ℕ) WriteFault
 written_of claims key = within_limit (token_text claims key)
 
--- the payload's text spells a payload of the form, for the claims' own audience and issuer, and its claims are these
+-- the payload's text spells a value that says these claims
 pub record IsProperClaims (claims : Claims) : Type 0 where
   pub value : Data
   pub spelled : json_of (payload_text_of claims) ≡ Some value
-  pub same : claims_in (Some value) ≡ claims
-  pub fits : fits_payload claims.aud claims.iss (Some claims.iss) value ≡ true
+  pub says : ClaimsAre claims value

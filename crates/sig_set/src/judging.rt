@@ -1,27 +1,41 @@
-ghost use Rattle.std.specs.Prelude.{◌≡◌, Some, option_copied};
+ghost use Rattle.std.specs.Prelude.{◌≡◌, IfOk, Some, codes, option_copied, option_map};
+ghost use Rattle.serde_json.specs.View.{view};
 ghost use Rattle.sig_json.specs.Answers.{Answers};
-ghost use Rattle.sig_json.specs.Checks.{first_failing};
-ghost use Rattle.sig_json.specs.Json.{json_of};
-ghost use Rattle.sig_set.specs.FirstForm.{claims_in};
-ghost use Rattle.sig_set.specs.Judgement.{by_first_issuer, form_checks, is_signed, judged, judged_by, result_of};
+ghost use Rattle.sig_set.specs.Checks.{outcome, passed};
+ghost use Rattle.sig_set.specs.Claims.{text_in};
+ghost use Rattle.sig_set.specs.Judgement.{issuer_checks, issuer_in, issuer_named, judged, keys_in, result_of, speaks_for, trust_checks};
 
-use crate::form::claims_from;
-use crate::{Claims, Code, Refusal, Spot, Trust};
-use sig_json::Text;
-use sig_json::limits::TOKEN_BYTES;
-use sig_jws::{Compact, SplitFault, split, verifies};
+use crate::audience::is_for;
+use crate::content::content;
+use crate::header::verify;
+use crate::opening::{Opened, open};
+use crate::refusal::refused;
+use crate::values::says;
+use crate::{Claims, Code, Issuer, Refusal, Spot, Trust};
+use sig_json::{Text, Value, text_of};
+use sig_jws::Key;
 use std::alloc::Global;
 
-/// The claims of a token, or the first check that fails (RFC 8417, section 2; RFC 7515, section 5.2).
+/// The claims of a token, or the first check that fails (RFC 8417, section 2; RFC 7515, section 5.2; the codes are those
+/// of RFC 8935, section 2.4).
 ///
-/// `principal` is the issuer for whom the bearer may speak, none where the bearer names nobody. `named` is the
-/// identifier under which a poll listed the token; it isn't looked at yet. The checks, in their order:
+/// `principal` is the issuer for whom the bearer may speak, none where the bearer names nobody. `named` is the identifier
+/// under which a poll listed the token. The checks, in their order, with the spot of each:
 ///
-/// 1. the text has at most 8,192 bytes, else `InvalidRequest` at `Unbuilt`;
-/// 2. it has the compact form, else `InvalidRequest` at `Compact`;
-/// 3. it has the one form that is taken, for the issuer and key that are trusted and for this principal, else
-///    `InvalidRequest` at `Unbuilt`;
-/// 4. the key signed it, else `InvalidKey` at `Mac`.
+/// 1. `AuthenticationFailed`: there is a principal (`Bearer`).
+/// 2. `InvalidRequest`: the text has at most 8,192 bytes (`Length`) and the compact form (`Compact`); the header is an
+///    object (`Header`) whose `typ` is `secevent+jwt`, with or without `application/` and in any ASCII case (`Typ`), and
+///    which has no `crit` (`Crit`); the payload is an object (`Payload`) whose `iss` is a text (`Iss`).
+/// 3. `InvalidIssuer`: the issuer is configured (`Iss`).
+/// 4. `AccessDenied`: it is the principal (`Iss`).
+/// 5. `InvalidKey`: `alg` is `HS256` (`Alg`); some key of the issuer may have signed it by the header's `kid` (`Kid`); one
+///    of these did (`Mac`).
+/// 6. `InvalidAudience`: `aud` is the audience, or a list of texts that holds it (`Aud`).
+/// 7. `InvalidRequest`: `jti` is a text that isn't empty, and the name where one is given (`Jti`); `iat` is a whole number
+///    from 0 to 2^62 (`Iat`); there is neither `exp` (`Exp`) nor `sub` (`Sub`); `sub_id` is a subject (`SubId`); `events`
+///    has a member (`Events`), and each, in byte order of its URI, is an event about the subject (`Event`).
+///
+/// Other members are passed over. `Memory` is want of memory.
 pub fn judge(
     alloc: Global,
     trust: &Trust,
@@ -31,52 +45,74 @@ pub fn judge(
 ) -> Result<Claims, Refusal>
     ensures { Answers Refusal.Memory result (result_of (judged trust.now (option_copied principal.entry) (option_copied named.entry) bytes.now)) }
 {
-    let _ = named;
-    if bytes.len() > TOKEN_BYTES {
-        return refused(Code::InvalidRequest, Spot::Unbuilt);
+    if principal.is_none() {
+        return Err(refused(Code::AuthenticationFailed, Spot::Bearer));
     }
-    match split(alloc, bytes) {
-        Ok(token) => judge_form(alloc, trust, principal, &token),
-        Err(SplitFault::Memory) => Err(Refusal::Memory),
-        Err(_) => refused(Code::InvalidRequest, Spot::Compact),
-    }
+    let opened = open(alloc, bytes)?;
+    check_trust(trust, principal, &opened)?;
+    content(alloc, named, &opened.payload)
 }
 
-// The checks of the compact form.
-fn judge_form(
-    alloc: Global,
-    trust: &Trust,
+/// That the token is by an issuer who is trusted and for whom the bearer speaks, signed by a key of it, and for the
+/// trust's own audience.
+fn check_trust(trust: &Trust, principal: Option<&Text>, opened: &Opened) -> Result<(), Refusal>
+    ensures { result ≡ passed
+        (trust_checks trust.now (option_copied principal.entry) (Some opened.now.token) (Some (view opened.now.header)) (Some (view opened.now.payload))) }
+{
+    let keys = keys_for(trust.issuers.as_slice(), principal, &opened.payload)?;
+    verify(&opened.token, &opened.header, keys)?;
+    if !is_for(&opened.payload, trust.audience.as_str()) {
+        return Err(refused(Code::InvalidAudience, Spot::Aud));
+    }
+    Ok(())
+}
+
+/// The keys of the payload's issuer, where it is configured and the bearer speaks for it.
+fn keys_for<'a>(
+    issuers: &'a [Issuer],
     principal: Option<&Text>,
-    token: &Compact,
-) -> Result<Claims, Refusal>
-    ensures { Answers Refusal.Memory result (result_of
-        (judged_by (first_failing (form_checks trust.now (option_copied principal.entry) (Some token.now))) (claims_in (json_of token.now.payload)))) }
+    payload: &Value,
+) -> Result<&'a [Key], Refusal>
+    ensures checks { outcome result ≡ passed (issuer_checks issuers.now (option_copied principal.entry) (Some (view payload.now))) }
+    ensures keys { IfOk result (λ keys. keys.now ≡ keys_in issuers.now (Some (view payload.now))) }
 {
-    let Some(claims) = claims_from(alloc, trust, principal, token)? else {
-        return refused(Code::InvalidRequest, Spot::Unbuilt);
+    let Some(issuer) = issuer_in(issuers, payload) else {
+        return Err(refused(Code::InvalidIssuer, Spot::Iss));
     };
-    if is_signed_for(trust, token) {
-        Ok(claims)
-    } else {
-        refused(Code::InvalidKey, Spot::Mac)
+    if !speaks_for(principal, payload) {
+        return Err(refused(Code::AccessDenied, Spot::Iss));
+    }
+    Ok(issuer.keys.as_slice())
+}
+
+/// The issuer that the payload names.
+fn issuer_in<'a>(issuers: &'a [Issuer], payload: &Value) -> Option<&'a Issuer>
+    ensures { option_map (λ issuer. issuer.now) result ≡ issuer_in issuers.now (Some (view payload.now)) }
+{
+    match text_of(payload, "iss") {
+        None => None,
+        Some(iss) => issuer_named(iss, issuers),
     }
 }
 
-fn refused(code: Code, spot: Spot) -> Result<Claims, Refusal>
-    ensures { result ≡ Err (Refusal.Coded code spot) }
+/// The issuer of this name.
+fn issuer_named<'a>(iss: &str, issuers: &'a [Issuer]) -> Option<&'a Issuer>
+    ensures { option_map (λ issuer. issuer.now) result ≡ issuer_named iss.now issuers.now }
 {
-    Err(Refusal::Coded { code, spot })
+    for issuer in issuers {
+        if issuer.iss.as_str() == iss {
+            return Some(issuer);
+        }
+    }
+    None
 }
 
-// The key that is trusted signed it.
-fn is_signed_for(trust: &Trust, token: &Compact) -> bool
-    ensures { result ≡ by_first_issuer (λ issuer key. is_signed key.bytes (Some token.now)) trust.now.issuers }
+/// Whether the principal is the payload's issuer.
+fn speaks_for(principal: Option<&Text>, payload: &Value) -> bool
+    ensures { result ≡ speaks_for (option_copied principal.entry) (text_in (codes "iss") (Some (view payload.now))) }
 {
-    let Some(issuer) = trust.issuers.as_slice().first() else {
+    let Some(name) = principal else {
         return false;
     };
-    match issuer.keys.as_slice().first() {
-        None => false,
-        Some(key) => verifies(token, key.bytes.as_slice()),
-    }
+    says(payload, "iss", name.as_str())
 }

@@ -1,17 +1,28 @@
 //! Laws over the definitions: each function's contract is the law, and nothing calls it.
 
-ghost use Rattle.sig_set.specs.Laws.{AreJudgedValid, AreProperInUtf8, AreShortEnough};
+ghost use Rattle.sig_set.specs.Claims.{ReadsClaims};
+ghost use Rattle.sig_set.specs.Laws.{AreJudgedValid, AreProperByParts, AreRead, AreShortEnough};
 
-/// Claims whose texts are UTF-8, whose identifier and subject aren't empty and whose time is at most 2^62 are proper:
-/// the text of their payload spells a payload of the form that has just these claims.
-pub fn claims_in_utf8_are_proper()
-    ensures { AreProperInUtf8 }
+/// A payload says claims exactly where they are read of it.
+pub fn claims_are_read()
+    ensures { ReadsClaims }
 {}
 
-/// What is written of proper claims under a key is judged valid with these claims by everyone whom the claims are for
-/// and who trusts that issuer and key first.
+/// Claims with one proper event about a proper subject are proper, where their texts are UTF-8 and their payload nests no
+/// deeper than is read.
+pub fn claims_of_proper_parts_are_proper()
+    ensures { AreProperByParts }
+{}
+
+/// What is written of proper claims under a key is judged valid with these claims by everyone whom the claims are for and
+/// who trusts that issuer and key, under the claims' identifier or no name.
 pub fn written_claims_are_judged_valid()
     ensures { AreJudgedValid }
+{}
+
+/// The claims of a token that is judged valid are read of its text without a key.
+pub fn valid_claims_are_read()
+    ensures { AreRead }
 {}
 
 /// Claims whose payload has at most 6,000 bytes are written, under a key without a name or with one of at most 64 of

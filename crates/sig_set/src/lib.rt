@@ -1,40 +1,31 @@
-//! Judging and writing security event tokens (RFC 8417), and what a receiver keeps of those that it took.
+//! Judging, reading and writing security event tokens (RFC 8417).
 //!
-//! It stands on `sig_jws` for the compact form and the MAC, and on `sig_json` for the payload. Everything that the
-//! layers above promise of tokens is said by the definitions in `specs/`: the judgement is a list of checks over the
-//! whole text of which the first that fails decides (`Judgement`), a receiver's answers and its journal follow from
-//! it (`Journal`), the session table is the fold of the journal (`Table`), the printed text is that of `Printed`, and
-//! what is written of claims that of `Written`. What is written of proper claims is judged valid with these claims
-//! (`laws`).
+//!     text -> length, compact form, header, payload -> issuer, key, audience -> subject, events -> claims
 //!
-//! So far one form of tokens is taken and written: a session-revoked event on an opaque subject, from one issuer with
-//! one key. Left out: forging, and the secrecy of keys.
+//! It stands on `sig_jws` for the compact form and the MAC, on `sig_subject` and `sig_event` for what a token says, and on
+//! `sig_json` for values. The judgement is a list of checks over the whole text of which the first that fails decides
+//! (`specs/Judgement`); what a payload says is a relation, and its reading is that relation (`specs/Claims`); what is
+//! written of claims is that of `specs/Written`. What is written of proper claims is judged valid with these claims, and
+//! the claims of a token that is valid are read without its key (`laws`). Left out: forging, and the secrecy of keys.
 #![tactic(auto)]
 
-mod claims;
-mod form;
-mod heard;
+mod audience;
+mod content;
+mod header;
 mod judging;
 pub mod laws;
-mod pair;
-mod printing;
-mod receiver;
+mod opening;
+mod reading;
 mod refusal;
-mod row;
-mod taking;
 #[cfg(test)]
 mod tests;
 mod trust;
+mod values;
 mod writing;
 
-pub use claims::Claims;
-pub use form::{SESSION_REVOKED, fits_events, fits_subject, subject_in};
-pub use heard::Heard;
 pub use judging::judge;
-pub use pair::Pair;
-pub use printing::{answer_line, counts_line, row_line};
-pub use receiver::Receiver;
+pub use reading::{ClaimsFault, claims_of};
 pub use refusal::{Code, Refusal, Spot};
-pub use row::Row;
+pub use sig_event::Claims;
 pub use trust::{Issuer, Trust};
 pub use writing::{WriteFault, payload_text, signed_claims, write};

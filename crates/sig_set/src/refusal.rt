@@ -62,8 +62,6 @@ pub enum Spot {
     Events,
     /// One of the events.
     Event,
-    /// A form that is not taken yet.
-    Unbuilt,
 }
 
 /// A refused judgement.
@@ -121,9 +119,15 @@ impl Spot {
             Spot::SubId => "sub_id",
             Spot::Events => "events",
             Spot::Event => "event",
-            Spot::Unbuilt => "unbuilt",
         }
     }
+}
+
+/// The refusal with this code at this spot.
+pub(crate) fn refused(code: Code, spot: Spot) -> Refusal
+    ensures { result ≡ Refusal.Coded code spot }
+{
+    Refusal::Coded { code, spot }
 }
 
 impl From<AllocError> for Refusal {

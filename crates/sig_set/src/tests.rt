@@ -1,11 +1,9 @@
-//! Tokens of every verdict, and what a receiver keeps of them.
+//! Tokens of every code and spot, examples of the standards, and the claims that are read.
 
 mod tokens;
 mod written;
 
-use crate::{
-    Code, Heard, Issuer, Receiver, Spot, Trust, answer_line, counts_line, judge, row_line,
-};
+use crate::{Claims, ClaimsFault, Issuer, Refusal, Trust, claims_of, judge};
 use sig_json::{Bytes, Items, Memory, Text};
 use sig_jws::Key;
 use std::alloc::Global;
@@ -13,216 +11,273 @@ use std::test::Fail;
 
 const KEY: &[u8] = b"0123456789abcdef0123456789abcdef";
 
+const OTHER_KEY: &[u8] = b"ffffffffffffffffffffffffffffffff";
+
 const ISSUER: &str = "https://idp.example";
 
-fn key(alloc: Global, kid: Option<&str>) -> Result<Key, Memory> {
-    let kid = match kid {
-        Some(kid) => Some(Text::of(alloc, kid)?),
-        None => None,
+const AUDIENCE: &str = "https://rp.example";
+
+const JTI: &str = "6ba7b810-9dad-11d1-80b4-00c04fd430c8.acme-1.1";
+
+// A key with a name, or with none where the name is empty.
+fn key(alloc: Global, name: &str, bytes: &[u8]) -> Result<Key, Memory> {
+    let kid = if name.is_empty() {
+        None
+    } else {
+        Some(Text::of(alloc, name)?)
     };
     Ok(Key {
         kid,
-        bytes: Bytes::of(alloc, KEY)?,
+        bytes: Bytes::of(alloc, bytes)?,
     })
 }
 
-fn trust(alloc: Global, kid: Option<&str>) -> Result<Trust, Memory> {
-    let mut keys = Vec::new(alloc);
-    keys.push(key(alloc, kid)?)?;
+fn trust(alloc: Global, iss: &str, audience: &str, keys: Vec<Key>) -> Result<Trust, Memory> {
     let mut issuers = Vec::new(alloc);
     issuers.push(Issuer {
-        iss: Text::of(alloc, ISSUER)?,
+        iss: Text::of(alloc, iss)?,
         keys: Items::of(keys),
     })?;
     Ok(Trust {
-        audience: Text::of(alloc, "https://rp.example")?,
+        audience: Text::of(alloc, audience)?,
         issuers: Items::of(issuers),
     })
 }
 
-// What is heard of a text by a receiver that took nothing yet, of a bearer who speaks for the issuer.
-fn heard(alloc: Global, trust: &Trust, text: &[u8]) -> Result<Heard, Memory> {
-    let me = Text::of(alloc, ISSUER)?;
-    Receiver::new(alloc).hear(trust, Some(&me), None, text)
+fn trust_of_one(alloc: Global, name: &str) -> Result<Trust, Memory> {
+    let mut keys = Vec::new(alloc);
+    keys.push(key(alloc, name, KEY)?)?;
+    trust(alloc, ISSUER, AUDIENCE, keys)
+}
+
+fn trust_of_two(
+    alloc: Global,
+    name: &str,
+    bytes: &[u8],
+    other: &str,
+    others: &[u8],
+) -> Result<Trust, Memory> {
+    let mut keys = Vec::new(alloc);
+    keys.push(key(alloc, name, bytes)?)?;
+    keys.push(key(alloc, other, others)?)?;
+    trust(alloc, ISSUER, AUDIENCE, keys)
+}
+
+// The code and the spot of the answer, accepted and none where there are claims.
+fn words(answer: Result<Claims, Refusal>) -> Result<(&'static str, &'static str), Memory> {
+    match answer {
+        Ok(_) => Ok(("accepted", "none")),
+        Err(Refusal::Coded { code, spot }) => Ok((code.as_str(), spot.as_str())),
+        Err(Refusal::Memory) => Err(Memory),
+    }
+}
+
+// The answer to a bearer who speaks for this issuer, under no name.
+fn told(
+    alloc: Global,
+    trust: &Trust,
+    iss: &str,
+    token: &str,
+) -> Result<(&'static str, &'static str), Memory> {
+    let principal = Text::of(alloc, iss)?;
+    words(judge(alloc, trust, Some(&principal), None, token.as_bytes()))
 }
 
 #[test]
-fn tokens_of_the_form_are_taken(rt: HostRuntime) -> Result<(), Fail> {
-    let trust = trust(rt.alloc(), None)?;
-    for text in [tokens::GOOD, tokens::NAMED_KEY, tokens::LAST_SECOND] {
+fn tokens_of_the_profile_are_accepted(rt: HostRuntime) -> Result<(), Fail> {
+    let trust = trust_of_one(rt.alloc(), "")?;
+    for token in tokens::ACCEPTED {
         assert_eq!(rt;
-            heard(rt.alloc(), &trust, text.as_bytes())?,
-            Heard::Accepted,
-            "{text}"
+            told(rt.alloc(), &trust, ISSUER, token)?,
+            ("accepted", "none"),
+            "{token}"
         );
     }
     Ok(())
 }
 
 #[test]
-fn texts_without_compact_form_are_refused_there(rt: HostRuntime) -> Result<(), Fail> {
-    let trust = trust(rt.alloc(), None)?;
-    let wanted = Heard::NotTaken {
-        code: Code::InvalidRequest,
-        spot: Spot::Compact,
-    };
-    for text in [tokens::UNSIGNED, tokens::ONE_DOT, tokens::PADDED] {
+fn the_first_check_that_fails_is_told(rt: HostRuntime) -> Result<(), Fail> {
+    let trust = trust_of_one(rt.alloc(), "")?;
+    for (token, code, spot) in tokens::REFUSED {
         assert_eq!(rt;
-            heard(rt.alloc(), &trust, text.as_bytes())?,
-            wanted,
-            "{text}"
+            told(rt.alloc(), &trust, ISSUER, token)?,
+            (code, spot),
+            "{token}"
         );
     }
     Ok(())
 }
 
 #[test]
-fn tokens_of_other_forms_are_refused(rt: HostRuntime) -> Result<(), Fail> {
-    let trust = trust(rt.alloc(), None)?;
-    let wanted = Heard::NotTaken {
-        code: Code::InvalidRequest,
-        spot: Spot::Unbuilt,
-    };
-    for text in [
-        tokens::OTHER_ALGORITHM,
-        tokens::ALGORITHM_NONE,
-        tokens::NO_TYPE,
-        tokens::FURTHER_HEADER_MEMBER,
-        tokens::KEY_NAME_IS_NO_TEXT,
-        tokens::HEADER_IS_NO_OBJECT,
-        tokens::HEADER_IS_NO_JSON,
-        tokens::PAYLOAD_IS_NO_JSON,
-        tokens::OTHER_AUDIENCE,
-        tokens::OTHER_ISSUER,
-        tokens::EMPTY_JTI,
-        tokens::NO_JTI,
-        tokens::TIME_BEFORE_ZERO,
-        tokens::TIME_WITH_FRACTION,
-        tokens::TIME_PAST_THE_LAST,
-        tokens::OTHER_SUBJECT_FORMAT,
-        tokens::EMPTY_SUBJECT,
-        tokens::SUBJECT_WITH_FURTHER_MEMBER,
-        tokens::EVENT_WITH_MEMBER,
-        tokens::NO_EVENT,
-        tokens::TWO_EVENTS,
-        tokens::FURTHER_MEMBER,
-    ] {
+fn examples_of_the_standards_are_judged(rt: HostRuntime) -> Result<(), Fail> {
+    for (token, iss, audience, code, spot) in tokens::EXAMPLES {
+        let mut keys = Vec::new(rt.alloc());
+        keys.push(key(rt.alloc(), "", KEY)?)?;
+        let trust = trust(rt.alloc(), iss, audience, keys)?;
         assert_eq!(rt;
-            heard(rt.alloc(), &trust, text.as_bytes())?,
-            wanted,
-            "{text}"
+            told(rt.alloc(), &trust, iss, token)?,
+            (code, spot),
+            "{token}"
         );
     }
     Ok(())
 }
 
 #[test]
-fn tokens_signed_otherwise_are_refused_at_the_code(rt: HostRuntime) -> Result<(), Fail> {
-    let trust = trust(rt.alloc(), None)?;
-    let wanted = Heard::NotTaken {
-        code: Code::InvalidKey,
-        spot: Spot::Mac,
-    };
-    for text in [
-        tokens::OTHER_KEY,
-        tokens::CODE_OF_THE_HEADER_ALONE,
-        tokens::SHORT_CODE,
-    ] {
-        assert_eq!(rt;
-            heard(rt.alloc(), &trust, text.as_bytes())?,
-            wanted,
-            "{text}"
-        );
-    }
-    Ok(())
-}
-
-#[test]
-fn a_named_key_is_asked_for_by_its_name(rt: HostRuntime) -> Result<(), Fail> {
-    let wanted = Heard::NotTaken {
-        code: Code::InvalidRequest,
-        spot: Spot::Unbuilt,
-    };
-    let named = trust(rt.alloc(), Some("k1"))?;
+fn a_bearer_speaks_for_its_own_issuer(rt: HostRuntime) -> Result<(), Fail> {
+    let trust = trust_of_one(rt.alloc(), "")?;
+    let nobody = judge(rt.alloc(), &trust, None, None, tokens::UNSIGNED.as_bytes());
+    assert_eq!(rt; words(nobody)?, ("authentication_failed", "bearer"));
+    let other = "https://other.example";
     assert_eq!(rt;
-        heard(rt.alloc(), &named, tokens::NAMED_KEY.as_bytes())?,
-        Heard::Accepted
+        told(rt.alloc(), &trust, other, tokens::GOOD)?,
+        ("access_denied", "iss")
     );
     assert_eq!(rt;
-        heard(rt.alloc(), &named, tokens::GOOD.as_bytes())?,
-        Heard::Accepted
-    );
-    let other = trust(rt.alloc(), Some("k2"))?;
-    assert_eq!(rt;
-        heard(rt.alloc(), &other, tokens::NAMED_KEY.as_bytes())?,
-        wanted
+        told(rt.alloc(), &trust, other, tokens::OTHER_KEY)?,
+        ("access_denied", "iss")
     );
     Ok(())
 }
 
 #[test]
-fn nobody_brings_no_token(rt: HostRuntime) -> Result<(), Fail> {
-    let trust = trust(rt.alloc(), None)?;
-    let other = Text::of(rt.alloc(), "https://other.example")?;
-    assert!(rt; judge(rt.alloc(), &trust, None, None, tokens::GOOD.as_bytes()).is_err());
-    assert!(rt;
-        judge(
-            rt.alloc(),
-            &trust,
-            Some(&other),
-            None,
-            tokens::GOOD.as_bytes()
-        )
-        .is_err()
+fn a_token_has_the_identifier_that_a_poll_listed(rt: HostRuntime) -> Result<(), Fail> {
+    let trust = trust_of_one(rt.alloc(), "")?;
+    let principal = Text::of(rt.alloc(), ISSUER)?;
+    let token = tokens::GOOD.as_bytes();
+    let listed = Text::of(rt.alloc(), JTI)?;
+    let answer = judge(rt.alloc(), &trust, Some(&principal), Some(&listed), token);
+    assert_eq!(rt; words(answer)?, ("accepted", "none"));
+    let other = Text::of(rt.alloc(), "6ba7b810-9dad-11d1-80b4-00c04fd430c8.acme-1.2")?;
+    let answer = judge(rt.alloc(), &trust, Some(&principal), Some(&other), token);
+    assert_eq!(rt; words(answer)?, ("invalid_request", "jti"));
+    Ok(())
+}
+
+#[test]
+fn a_header_may_name_its_key(rt: HostRuntime) -> Result<(), Fail> {
+    let named = tokens::NAMED_KEY;
+    let right = trust_of_one(rt.alloc(), "k1")?;
+    assert_eq!(rt;
+        told(rt.alloc(), &right, ISSUER, named)?,
+        ("accepted", "none")
+    );
+    assert_eq!(rt;
+        told(rt.alloc(), &right, ISSUER, tokens::GOOD)?,
+        ("accepted", "none")
+    );
+    let wrong = trust_of_one(rt.alloc(), "k2")?;
+    assert_eq!(rt;
+        told(rt.alloc(), &wrong, ISSUER, named)?,
+        ("invalid_key", "kid")
+    );
+    assert_eq!(rt;
+        told(rt.alloc(), &wrong, ISSUER, tokens::GOOD)?,
+        ("accepted", "none")
+    );
+    let none = trust(rt.alloc(), ISSUER, AUDIENCE, Vec::new(rt.alloc()))?;
+    assert_eq!(rt;
+        told(rt.alloc(), &none, ISSUER, tokens::GOOD)?,
+        ("invalid_key", "kid")
+    );
+    Ok(())
+}
+
+#[test]
+fn the_named_key_is_tried_and_no_other(rt: HostRuntime) -> Result<(), Fail> {
+    let named = tokens::NAMED_KEY;
+    let second = trust_of_two(rt.alloc(), "k2", OTHER_KEY, "k1", KEY)?;
+    assert_eq!(rt;
+        told(rt.alloc(), &second, ISSUER, named)?,
+        ("accepted", "none")
+    );
+    let beside = trust_of_two(rt.alloc(), "k1", OTHER_KEY, "k2", KEY)?;
+    assert_eq!(rt;
+        told(rt.alloc(), &beside, ISSUER, named)?,
+        ("invalid_key", "mac")
+    );
+    assert_eq!(rt;
+        told(rt.alloc(), &beside, ISSUER, tokens::GOOD)?,
+        ("accepted", "none")
+    );
+    let unnamed = trust_of_two(rt.alloc(), "k2", OTHER_KEY, "", KEY)?;
+    assert_eq!(rt;
+        told(rt.alloc(), &unnamed, ISSUER, named)?,
+        ("accepted", "none")
     );
     Ok(())
 }
 
 #[test]
 fn claims_are_those_of_the_payload(rt: HostRuntime) -> Result<(), Fail> {
-    let trust = trust(rt.alloc(), None)?;
-    let me = Text::of(rt.alloc(), ISSUER)?;
-    let claims = judge(rt.alloc(), &trust, Some(&me), None, tokens::GOOD.as_bytes())?;
+    let trust = trust_of_one(rt.alloc(), "")?;
+    let principal = Text::of(rt.alloc(), ISSUER)?;
+    let token = tokens::LISTED_AUDIENCE.as_bytes();
+    let claims = judge(rt.alloc(), &trust, Some(&principal), None, token)?;
     assert_eq!(rt; claims.iss.as_str(), ISSUER);
-    assert_eq!(rt;
-        claims.jti.as_str(),
-        "6ba7b810-9dad-11d1-80b4-00c04fd430c8.acme-1.1"
-    );
+    assert_eq!(rt; claims.jti.as_str(), JTI);
     assert_eq!(rt; claims.iat, 1_700_000_000);
-    assert_eq!(rt; claims.aud.as_str(), "https://rp.example");
-    assert_eq!(rt; claims.subject.as_str(), "s-77");
-    assert_eq!(rt; claims.copy(rt.alloc())? == claims, true);
-    assert_eq!(rt; trust.copy(rt.alloc())? == trust, true);
+    assert_eq!(rt; claims.aud.as_slice().len(), 2);
+    for (text, wanted) in claims
+        .aud
+        .as_slice()
+        .iter()
+        .zip(["https://other.example", AUDIENCE])
+    {
+        assert_eq!(rt; text.as_str(), wanted);
+    }
+    assert_eq!(rt; claims.events.as_slice().len(), 1);
+    for event in claims.events.as_slice() {
+        assert_eq!(rt;
+            event.uri(),
+            "https://schemas.openid.net/secevent/caep/event-type/session-revoked"
+        );
+    }
+    assert!(rt; claims_of(rt.alloc(), token)? == claims);
     Ok(())
 }
 
+// Whether two texts are read as the same claims.
+fn has_claims_of(alloc: Global, token: &str, other: &str) -> Result<bool, ClaimsFault> {
+    let claims = claims_of(alloc, token.as_bytes())?;
+    Ok(claims == claims_of(alloc, other.as_bytes())?)
+}
+
+// Whether a text is read as claims of this issuer.
+fn has_issuer(alloc: Global, token: &str, iss: &str) -> Result<bool, ClaimsFault> {
+    Ok(claims_of(alloc, token.as_bytes())?.iss.as_str() == iss)
+}
+
 #[test]
-fn a_repeat_is_seen_and_printed_so(rt: HostRuntime) -> Result<(), Fail> {
-    let trust = trust(rt.alloc(), None)?;
-    let me = Text::of(rt.alloc(), ISSUER)?;
-    let mut receiver = Receiver::new(rt.alloc());
-    let first = receiver.hear(&trust, Some(&me), None, tokens::GOOD.as_bytes())?;
-    let second = receiver.hear(&trust, Some(&me), None, tokens::GOOD.as_bytes())?;
-    let third = receiver.hear(&trust, Some(&me), None, b"x")?;
-    assert_eq!(rt;
-        answer_line(rt.alloc(), 1, &first)?.as_str(),
-        "1 accepted\n"
-    );
-    assert_eq!(rt; answer_line(rt.alloc(), 2, &second)?.as_str(), "2 seen\n");
-    assert_eq!(rt;
-        answer_line(rt.alloc(), 30, &third)?.as_str(),
-        "30 refused invalid_request compact\n"
-    );
-    assert_eq!(rt; receiver.rows().len(), 1);
-    for row in receiver.rows() {
-        assert_eq!(rt;
-            row_line(rt.alloc(), 1, row)?.as_str(),
-            "row 1 {\"format\":\"opaque\",\"id\":\"s-77\"} session=revoked account=unseen device=unseen reset=no stale=no opt=unseen level=-\n"
-        );
+fn claims_are_read_without_a_judgement(rt: HostRuntime) -> Result<(), Fail> {
+    for token in [tokens::OTHER_KEY, tokens::ALGORITHM_NONE, tokens::SHORT_MAC] {
+        assert!(rt; has_claims_of(rt.alloc(), token, tokens::GOOD)?, "{token}");
     }
-    assert_eq!(rt;
-        counts_line(rt.alloc(), receiver.rows().len(), receiver.tokens())?.as_str(),
-        "rows 1 tokens 1\n"
-    );
+    let other = tokens::OTHER_ISSUER_AND_KEY;
+    assert!(rt; has_issuer(rt.alloc(), other, "https://other.example")?);
+    Ok(())
+}
+
+// The spot at which reading a text ends, and none where there are claims.
+fn spot_of(alloc: Global, token: &str) -> Result<&'static str, Memory> {
+    match claims_of(alloc, token.as_bytes()) {
+        Ok(_) => Ok("none"),
+        Err(ClaimsFault::Bad(spot)) => Ok(spot.as_str()),
+        Err(ClaimsFault::Memory) => Err(Memory),
+    }
+}
+
+#[test]
+fn the_first_check_of_reading_that_fails_is_told(rt: HostRuntime) -> Result<(), Fail> {
+    for (token, spot) in [
+        (tokens::TOO_LONG, "length"),
+        (tokens::NO_ISSUER, "iss"),
+        (tokens::LIST_WITH_A_NUMBER, "aud"),
+        (tokens::NO_JTI, "jti"),
+        (tokens::EMPTY_EVENTS, "events"),
+    ] {
+        assert_eq!(rt; spot_of(rt.alloc(), token)?, spot, "{token}");
+    }
     Ok(())
 }

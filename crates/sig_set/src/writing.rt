@@ -1,18 +1,17 @@
 //! Tokens that are written.
 
-ghost use Rattle.std.specs.Prelude.{◌≡◌, IfOk, None, Some, false};
-ghost use Rattle.serde_json.specs.Data.{put};
-ghost use Rattle.serde_json.specs.View.{view, members_view};
+ghost use Rattle.std.specs.Prelude.{◌≡◌, IfOk, None, Some, false, map};
+ghost use Rattle.serde_json.specs.Data.{array, no_members, object, string};
+ghost use Rattle.serde_json.specs.View.{items_of, view};
 ghost use Rattle.serde_json.specs.Written.{compact_text, has_float};
 ghost use Rattle.sig_json.specs.Answers.{Answers};
-ghost use Rattle.sig_set.specs.Written.{events_data, header_of, header_text_of, payload_of, payload_text_of, token_text, written_of};
+ghost use Rattle.sig_set.specs.Written.{audience_data, header_of, header_text_of, payload_of, payload_text_of, put_events, token_text, without_fraction, written_of};
 
 use crate::Claims;
-use crate::form::SESSION_REVOKED;
-use crate::printing::subject_value;
 use serde_json::{Map, json};
+use sig_event::Event;
 use sig_json::limits::TOKEN_BYTES;
-use sig_json::{AnyText, Bytes, Memory, Payload, Text, Value, put_member};
+use sig_json::{Bytes, Memory, Text, Value, has_fraction, put_value};
 use sig_jws::{Key, sign};
 use std::alloc::{AllocError, AllocFailed, Global};
 
@@ -118,29 +117,66 @@ fn named_header(alloc: Global, kid: &str) -> Result<Value, Memory>
 fn payload_value(alloc: Global, claims: &Claims) -> Result<Value, Memory>
     ensures { IfOk result (λ value. view value ≡ payload_of claims.now) }
 {
+    let audience = audience_value(alloc, claims.aud.as_slice())?;
+    let events = events_value(alloc, claims.events.as_slice())?;
+    let iss = text_value(alloc, &claims.iss)?;
+    let jti = text_value(alloc, &claims.jti)?;
+    let subject = sig_subject::to_json(alloc, &claims.subject)?;
     let mut payload = Map::new(alloc);
-    put_member::<AnyText>(alloc, &mut payload, "aud", &claims.aud)?;
-    put_value(alloc, &mut payload, "events", events_value(alloc)?)?;
+    put_value(alloc, &mut payload, "aud", audience)?;
+    put_value(alloc, &mut payload, "events", events)?;
     put_value(alloc, &mut payload, "iat", Value::from(claims.iat))?;
-    put_member::<AnyText>(alloc, &mut payload, "iss", &claims.iss)?;
-    put_member::<AnyText>(alloc, &mut payload, "jti", &claims.jti)?;
-    let subject = subject_value(alloc, claims.subject.as_str())?;
-    put_value(alloc, &mut payload, "sub_id", subject)?;
+    put_value(alloc, &mut payload, "iss", iss)?;
+    put_value(alloc, &mut payload, "jti", jti)?;
+    put_value(alloc, &mut payload, "sub_id", without_fraction(subject))?;
     Ok(Value::Object(payload))
 }
 
-fn put_value(alloc: Global, payload: &mut Payload, name: &str, value: Value) -> Result<(), Memory>
-    ensures { IfOk result (λ _. members_view payload.new.entries ≡ put name.now (view value) (members_view payload.old.entries)) }
+fn audience_value(alloc: Global, audience: &[Text]) -> Result<Value, Memory>
+    ensures { IfOk result (λ value. view value ≡ audience_data audience.now) }
 {
-    let key = String::from_str(alloc, name)?;
-    payload.insert(key, value)?;
-    Ok(())
+    match audience {
+        [text] => text_value(alloc, text),
+        texts => texts_value(alloc, texts),
+    }
 }
 
-fn events_value(alloc: Global) -> Result<Value, Memory>
-    ensures { IfOk result (λ value. view value ≡ events_data) }
+fn texts_value(alloc: Global, texts: &[Text]) -> Result<Value, Memory>
+    ensures { IfOk result (λ value. view value ≡ array (items_of (map string texts.now))) }
 {
-    Ok(json!(in alloc; {SESSION_REVOKED: {}})?)
+    let mut values = Vec::new(alloc);
+    for text in texts {
+        let value = text_value(alloc, text)?;
+        values.push(value)?;
+    }
+    Ok(Value::Array(values))
+}
+
+fn text_value(alloc: Global, text: &Text) -> Result<Value, Memory>
+    ensures { IfOk result (λ value. view value ≡ string text.now) }
+{
+    Ok(Value::String(String::from_str(alloc, text.as_str())?))
+}
+
+fn events_value(alloc: Global, events: &[Event]) -> Result<Value, Memory>
+    ensures { IfOk result (λ value. view value ≡ object (put_events events.now no_members)) }
+{
+    let mut members = Map::new(alloc);
+    for event in events {
+        let payload = sig_event::to_json(alloc, event)?;
+        put_value(alloc, &mut members, event.uri(), without_fraction(payload))?;
+    }
+    Ok(Value::Object(members))
+}
+
+// The value, or null in place of one with a fraction.
+fn without_fraction(value: Value) -> Value
+    ensures { view result ≡ without_fraction (view value) }
+{
+    if has_fraction(&value) {
+        return Value::Null;
+    }
+    value
 }
 
 // The text of a value in which no fraction stands.

@@ -1,0 +1,99 @@
+//! What a token's header tells: that it is a token, and by which key it is signed.
+
+ghost use Rattle.std.specs.Prelude.{◌≡◌, Some, option_copied, option_map};
+ghost use Rattle.serde_json.specs.View.{view};
+ghost use Rattle.sig_set.specs.Checks.{passed};
+ghost use Rattle.sig_set.specs.Header as spec;
+ghost use Rattle.sig_set.specs.Judgement.{key_checks};
+
+use crate::refusal::refused;
+use crate::values::says;
+use crate::{Code, Refusal, Spot};
+use sig_json::{Value, text_of};
+use sig_jws::{Compact, Key, verifies};
+
+/// Whether the header's `typ` is that of a security event token.
+pub fn says_token(header: &Value) -> bool
+    ensures { result ≡ spec.says_token (Some (view header.now)) }
+{
+    match text_of(header, "typ") {
+        None => false,
+        Some(text) => is_token_type(text),
+    }
+}
+
+fn is_token_type(text: &str) -> bool
+    ensures { result ≡ spec.is_token_type text.now }
+{
+    text.eq_ignore_ascii_case("secevent+jwt")
+        || text.eq_ignore_ascii_case("application/secevent+jwt")
+}
+
+/// That one of the keys signed the token: `InvalidKey` at `Alg`, `Kid` or `Mac`.
+pub fn verify(token: &Compact, header: &Value, keys: &[Key]) -> Result<(), Refusal>
+    ensures { result ≡ passed (key_checks (Some token.now) (Some (view header.now)) keys.now) }
+{
+    if !says(header, "alg", "HS256") {
+        return Err(refused(Code::InvalidKey, Spot::Alg));
+    }
+    let kid = header.get("kid");
+    if !has_candidate(kid, keys) {
+        return Err(refused(Code::InvalidKey, Spot::Kid));
+    }
+    if !is_verified(token, kid, keys) {
+        return Err(refused(Code::InvalidKey, Spot::Mac));
+    }
+    Ok(())
+}
+
+/// Whether some key may have signed a token whose header has this `kid`.
+fn has_candidate(kid: Option<&Value>, keys: &[Key]) -> bool
+    ensures { result ≡ spec.has_candidate (option_map view (option_copied kid.entry)) keys.now }
+{
+    for key in keys {
+        if is_candidate(kid, key) {
+            return true;
+        }
+    }
+    false
+}
+
+/// Whether one of the keys that may have signed the token did.
+fn is_verified(token: &Compact, kid: Option<&Value>, keys: &[Key]) -> bool
+    ensures { result ≡ spec.is_verified (Some token.now) (option_map view (option_copied kid.entry)) keys.now }
+{
+    for key in keys {
+        if is_candidate(kid, key) && is_signed(token, key) {
+            return true;
+        }
+    }
+    false
+}
+
+fn is_signed(token: &Compact, key: &Key) -> bool
+    ensures { result ≡ spec.is_signed (Some token.now) key.now }
+{
+    verifies(token, key.bytes.as_slice())
+}
+
+fn is_candidate(kid: Option<&Value>, key: &Key) -> bool
+    ensures { result ≡ spec.is_candidate (option_map view (option_copied kid.entry)) key.now }
+{
+    match kid {
+        None => true,
+        Some(kid) => is_meant(kid, key),
+    }
+}
+
+/// Whether this `kid` may mean the key: a text means the key of that name and every key without one.
+fn is_meant(kid: &Value, key: &Key) -> bool
+    ensures { result ≡ spec.is_candidate (Some (view kid.now)) key.now }
+{
+    let Some(wanted) = kid.as_str() else {
+        return false;
+    };
+    match &key.kid {
+        None => true,
+        Some(name) => wanted == name.as_str(),
+    }
+}

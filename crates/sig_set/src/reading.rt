@@ -1,0 +1,48 @@
+ghost use Rattle.std.specs.Prelude.{◌≡◌};
+ghost use Rattle.sig_json.specs.Answers.{Answers};
+ghost use Rattle.sig_json.specs.Checks.{first_failing};
+ghost use Rattle.sig_set.specs.Checks.{unless_refused};
+ghost use Rattle.sig_set.specs.Judgement.{claims_of};
+ghost use Rattle.sig_set.specs.Reading.{claims_read, reading_checks};
+
+use crate::audience::has_audience;
+use crate::content::content;
+use crate::opening::open;
+use crate::refusal::refused;
+use crate::{Claims, Code, Refusal, Spot};
+use std::alloc::Global;
+
+/// Why a text gives no claims.
+#[derive(Clone, Copy, Debug, PartialEq, Eq, Hash)]
+pub enum ClaimsFault {
+    /// The first check that fails is at this spot.
+    Bad(Spot),
+    /// Want of memory.
+    Memory,
+}
+
+/// The claims of a token's text, without a judgement of its key: for texts that were judged before (RFC 8417, section
+/// 2.2).
+///
+/// The checks are the second row of `judge`, then that `aud` is a text or a list of texts, then the last row with no name
+/// given; `Bad` names the spot of the first that fails.
+pub fn claims_of(alloc: Global, bytes: &[u8]) -> Result<Claims, ClaimsFault>
+    ensures { Answers ClaimsFault.Memory result (claims_read bytes.now) }
+{
+    match spoken(alloc, bytes) {
+        Ok(claims) => Ok(claims),
+        Err(Refusal::Coded { spot, .. }) => Err(ClaimsFault::Bad(spot)),
+        Err(Refusal::Memory) => Err(ClaimsFault::Memory),
+    }
+}
+
+/// The claims of the text, or the refusal of the first check that fails.
+fn spoken(alloc: Global, bytes: &[u8]) -> Result<Claims, Refusal>
+    ensures { Answers Refusal.Memory result (unless_refused (first_failing (reading_checks bytes.now)) (claims_of bytes.now)) }
+{
+    let opened = open(alloc, bytes)?;
+    if !has_audience(&opened.payload) {
+        return Err(refused(Code::InvalidAudience, Spot::Aud));
+    }
+    content(alloc, None, &opened.payload)
+}
