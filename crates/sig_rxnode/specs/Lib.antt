@@ -1,0 +1,4 @@
+pub mod Journal
+pub mod Rows
+pub mod Receiver
+pub mod Printed
