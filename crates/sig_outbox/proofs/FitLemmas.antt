@@ -1,9 +1,10 @@
 -- The fact of a call fits what came before it, and is as the rules have it.
-use Rattle.std.proofs.Common.{option_to_list, ◌≡◌, sym, subst, ℕ, ◌+◌, ◌≤◌, List, [], ◌∷◌, ◌++◌, true, false, not, ◌&&◌, ◌||◌, Option, Some, None, bytes_eq, if◌then◌else◌, length, refl, inl, inr}
-use Rattle.std.specs.Prelude.{◌⊎◌, nat_le, nat_lt, ◌==◌}
+use Rattle.std.proofs.Common.{option_to_list, ◌≡◌, sym, subst, ℕ, ◌+◌, ◌≤◌, List, [], ◌∷◌, ◌++◌, true, false, not, ◌&&◌, ◌||◌, Option, Some, None, bytes_eq, if◌then◌else◌, refl, inl, inr}
+use Rattle.std.specs.Prelude.{All, IsUtf8, ◌⊎◌, nat_le, ◌==◌}
 use Rattle.std.specs.List.{list_any, list_all}
 use Rattle.std.specs.Str.{is_utf8}
-use Rattle.std.proofs.lemmas.Bool.{and_from, and_parts, eq-eqb, leb-false, lt-ltb, ltb-true, not_from_false, or_cases, or_from, or_left, or_parts, or_right}
+use Rattle.std.proofs.lemmas.Bool.{and_from, and_parts, eq-eqb, leb-false, lt-ltb, not_from_false, or_cases, or_from, or_left, or_parts, or_right}
+use Rattle.std.proofs.lemmas.List.Elements.{All-cons, All-nil}
 use Rattle.std.proofs.lemmas.Str.{IsUtf8-from_is_utf8}
 use Rattle.sig_json.specs.declared.limits.TheConstants.{LAST_NUMBER, STREAMS_PER_CLIENT}
 use Rattle.sig_outbox.specs.declared.rules.Client.{Client}
@@ -17,9 +18,9 @@ use Rattle.sig_outbox.specs.declared.call.PollAsk.{PollAsk}
 use Rattle.sig_outbox.specs.declared.fact.Fact.{Fact}
 use Rattle.sig_outbox.specs.declared.fact.Fact.TheVariants as fact
 use Rattle.sig_outbox.specs.declared.fact.SettledItem.{SettledItem}
-use Rattle.sig_outbox.specs.History.{Stream, Parts, Made, Publication, client_in, created_by, stands, stream_name}
+use Rattle.sig_outbox.specs.History.{Stream, Parts, Made, Publication, client_in, created_by, news, stands, stream_name, News}
 use Rattle.sig_outbox.specs.Owed.{Sum, names_number, owed_by, owed_in, sum_of}
-use Rattle.sig_outbox.specs.Sound.{IsProperRules, are_owed, each_once, is_client_name, is_fitting, is_next, is_proper_call, is_proper_client, is_sound, may_be_made}
+use Rattle.sig_outbox.specs.Sound.{IsProperRules, are_owed, each_once, is_client_name, is_fitting, is_next, IsProperCall, is_proper_client, is_sound, may_be_made}
 use Rattle.sig_outbox.specs.Table.{change_of, client_of, created_fact, has_number, has_stream, is_long, is_past, keeps, made_change, made_over_top, next_conf, outcome_item, over_top, polled_change, publication_of, published_change, published_over_top, publishes, refused_as, refused_item, settled_fact, settled_item, settled_items, settling, streams_of}
 use Rattle.sig_outbox.proofs.JoinLemmas.{joined}
 use Rattle.sig_outbox.proofs.KeptLemmas.{IsKept, IsOurFact}
@@ -51,10 +52,16 @@ next_fits parts client ok few low =
     (and_from _ _ (and_from _ _ (and_from _ _ ok (text_itself name name refl)) (lt-ltb _ STREAMS_PER_CLIENT (leb-false STREAMS_PER_CLIENT _ few)))
     (lt-ltb _ LAST_NUMBER (leb-false LAST_NUMBER _ low)))
 
+texts_utf8 : (texts : List (List ℕ)) → list_all is_utf8 texts ≡ true → All IsUtf8 texts
+texts_utf8 [] h = All-nil IsUtf8
+texts_utf8 (text ∷ texts) h =
+    let both = and_parts (is_utf8 text) (list_all is_utf8 texts) h in
+    All-cons IsUtf8 text texts (IsUtf8-from_is_utf8 text both.0) (texts_utf8 texts both.1)
+
 created_right : (rules : Rules) (sum : Sum) (want : Want) (now : ℕ) (c : Client) (f : Fact) → is_proper_client c ≡ true
     → made_over_top sum.parts (Some c) ≡ false → made_change rules sum.parts want now (Some c) ≡ Some f → IsRight rules.issuer sum f
 created_right rules sum want now c f proper low is =
-    let both = and_parts (is_client_name c.name) (is_utf8 c.aud) proper in
+    let both = and_parts (is_client_name c.name) (list_all is_utf8 c.aud) proper in
     elim (nat_le STREAMS_PER_CLIENT (streams_of c.name sum.parts.streams)) as (λ b. nat_le STREAMS_PER_CLIENT (streams_of c.name sum.parts.streams) ≡ b
     → (not b && nat_le LAST_NUMBER (created_by c.name sum.parts.created)) ≡ false
     → (if b then None else Some (created_fact (next_conf rules sum.parts c want) now)) ≡ Some f → IsRight rules.issuer sum f) [
@@ -62,7 +69,7 @@ created_right rules sum want now c f proper low is =
       | false ↦ λ few low this. let same : created_fact (next_conf rules sum.parts c want) now ≡ f = cc in
           subst (λ g. IsRight rules.issuer sum g) same (record {
             fits = next_fits sum.parts c.name both.0 few low;
-            ours = (refl, IsUtf8-from_is_utf8 c.aud both.1);
+            ours = (refl, texts_utf8 c.aud both.1);
           })
     ] refl low is
 
@@ -74,16 +81,16 @@ create_right rules sum want now (Some c) f proper low is = created_right rules s
 
 -- ---- a publication
 
-publish_right : (issuer : List ℕ) (sum : Sum) (id subject : List ℕ) (now : ℕ) (tokens : List Made) (f : Fact)
-    → IsOurFact issuer (fact.Published id subject now)
-    → (may_be_made tokens ≡ true → is_fitting sum (fact.Published id subject now) ≡ true)
-    → (o : Option Publication) → published_over_top tokens o ≡ false → published_change (fact.Published id subject now) tokens o ≡ Some f → IsRight issuer sum f
-publish_right issuer sum id subject now tokens f ours fits (Some p) low is = cc is
-publish_right issuer sum id subject now tokens f ours fits None low is =
+publish_right : (issuer : List ℕ) (sum : Sum) (id : List ℕ) (said : News) (now : ℕ) (tokens : List Made) (f : Fact)
+    → IsOurFact issuer (fact.Published id said.subject said.event now)
+    → (may_be_made tokens ≡ true → is_fitting sum (fact.Published id said.subject said.event now) ≡ true)
+    → (o : Option Publication) → published_over_top tokens o ≡ false → published_change (fact.Published id said.subject said.event now) tokens o ≡ Some f → IsRight issuer sum f
+publish_right issuer sum id said now tokens f ours fits (Some p) low is = cc is
+publish_right issuer sum id said now tokens f ours fits None low is =
     elim (is_long tokens) as (λ b. (not b && list_any is_past tokens) ≡ false → is_long tokens ≡ b
-    → (if b then None else Some (fact.Published id subject now)) ≡ Some f → IsRight issuer sum f) [
+    → (if b then None else Some (fact.Published id said.subject said.event now)) ≡ Some f → IsRight issuer sum f) [
       | true ↦ λ low long none. cc none
-      | false ↦ λ low short this. let same : fact.Published id subject now ≡ f = cc in
+      | false ↦ λ low short this. let same : fact.Published id said.subject said.event now ≡ f = cc in
           subst (λ g. IsRight issuer sum g) same (record {
             fits = fits (and_from _ _ (not_from_false _ low) (not_from_false _ short));
             ours = ours;
@@ -204,7 +211,7 @@ poll_right issuer sum client stream ask f once is =
 -- ---- any call
 
 pub change_right : (rules : Rules) (store : List ℕ) (sum : Sum) (tokens : List Made) (call : Call) (now : ℕ) (f : Fact) → IsProperRules rules
-    → is_proper_call call ≡ true → now ≤ LAST_NUMBER → IsKept rules.issuer store sum tokens
+    → IsProperCall call → now ≤ LAST_NUMBER → IsKept rules.issuer store sum tokens
     → over_top rules sum call now ≡ false → change_of rules sum call now ≡ Some f → IsRight rules.issuer sum f
 unfolding change_of over_top
 change_right rules store sum tokens (Create client want) now f proper ok early kept low is =
@@ -212,10 +219,9 @@ change_right rules store sum tokens (Create client want) now f proper ok early k
     (λ c e. client_proper client rules.clients c (and_parts (is_utf8 rules.issuer) _ proper).1 e) low is
 change_right rules store sum tokens (Poll client stream ask) now f proper ok early kept low is =
     poll_right rules.issuer sum client stream ask f (kept.within stream).once is
-change_right rules store sum tokens (Publish id subject) now f proper ok early kept low is =
-    let both = and_parts (is_utf8 subject) (nat_lt 0 (length subject)) ok in
-    publish_right rules.issuer sum id subject now (publishes sum.parts id subject now) f
-    (IsUtf8-from_is_utf8 subject both.0, ltb-true 0 (length subject) both.1, early) (λ h. h) (publication_of id sum.parts.published) low is
+change_right rules store sum tokens (Publish id subject event) now f proper ok early kept low is =
+    publish_right rules.issuer sum id (news subject event) now (publishes sum.parts id (news subject event) now) f
+    (ok, early) (λ h. h) (publication_of id sum.parts.published) low is
 change_right rules store sum tokens (Settle stream number outcome) now f proper ok early kept low is =
     settle_right rules.issuer sum stream number outcome f is
 

@@ -1,7 +1,9 @@
 pub mod JoinLemmas
 pub mod StreamLemmas
 pub mod OwedLemmas
+pub mod UriTexts
 pub mod KeptLemmas
+pub mod SortedLemmas
 pub mod FitLemmas
 pub mod BalanceLemmas
 pub mod CountLemmas

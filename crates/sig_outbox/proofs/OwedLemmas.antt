@@ -3,10 +3,9 @@ use Rattle.std.proofs.Common.{◌≡◌, ap, sym, subst, ℕ, ◌+◌, ◌≤◌
 use Rattle.std.specs.Prelude.{◌⊎◌, All, Contains, ◌==◌}
 use Rattle.std.proofs.lemmas.Bool.{ne_eqb, or_from, or_parts}
 use Rattle.std.proofs.lemmas.List.Elements.{All-append, All-contains_itself, All-filter, All-head, All-nil, All-cons, All-tail, All-weaker, Contains-append_left, Contains-append_right, filter_passes}
-use Rattle.sig_set.specs.FirstForm.{session_revoked}
 use Rattle.sig_outbox.specs.declared.fact.Fact.{Fact}
 use Rattle.sig_outbox.specs.declared.fact.Fact.TheVariants.{Created, Published, Settled}
-use Rattle.sig_outbox.specs.History.{Stream, Parts, Made, is_before, is_due, is_named, made_by, next_token, parts_after, parts_of, put_in_order, stands, with_token}
+use Rattle.sig_outbox.specs.History.{Stream, Parts, Made, is_before, is_due, is_named, made_by, next_token, parts_after, parts_of, put_in_order, stands, with_token, News, news}
 use Rattle.sig_outbox.specs.Owed.{Sum, is_of, owed_after, owed_by, owed_in, sum_of, survives}
 use Rattle.sig_outbox.specs.Table.{has_number}
 use Rattle.sig_outbox.proofs.JoinLemmas.{found}
@@ -137,46 +136,46 @@ made_put name s (t ∷ ts) absent =
 -- ---- the next token of a stream
 
 -- what a publication makes for the stream of a name, among these streams
-abbrev new_for : List ℕ → Parts → List ℕ → ℕ → List Stream → List Made
-new_for name p subject time ss = filter (is_of name) (map (next_token p subject time) (filter (is_due subject session_revoked) ss))
+abbrev new_for : List ℕ → Parts → News → ℕ → List Stream → List Made
+new_for name p said time ss = filter (is_of name) (map (next_token p said time) (filter (is_due said) ss))
 
-none_for : (name : List ℕ) (p : Parts) (subject : List ℕ) (time : ℕ) (ss : List Stream) → stands name ss ≡ false → new_for name p subject time ss ≡ []
-none_for name p subject time [] absent = refl
-none_for name p subject time (s ∷ ss) absent =
+none_for : (name : List ℕ) (p : Parts) (said : News) (time : ℕ) (ss : List Stream) → stands name ss ≡ false → new_for name p said time ss ≡ []
+none_for name p said time [] absent = refl
+none_for name p said time (s ∷ ss) absent =
     let parts = or_parts (is_named name s) (stands name ss) absent in
-    elim (is_due subject session_revoked s) as (λ b.
-    filter (is_of name) (map (next_token p subject time) (if b then s ∷ filter (is_due subject session_revoked) ss else filter (is_due subject session_revoked) ss)) ≡ []) [
-      | true ↦ rw parts.0 (none_for name p subject time ss parts.1)
-      | false ↦ none_for name p subject time ss parts.1
+    elim (is_due said s) as (λ b.
+    filter (is_of name) (map (next_token p said time) (if b then s ∷ filter (is_due said) ss else filter (is_due said) ss)) ≡ []) [
+      | true ↦ rw parts.0 (none_for name p said time ss parts.1)
+      | false ↦ none_for name p said time ss parts.1
     ]
 
 -- the streams after a publication
-abbrev after_one : List ℕ → List Stream → List Stream
-after_one subject ss = map (with_token subject session_revoked) ss
+abbrev after_one : News → List Stream → List Stream
+after_one said ss = map (with_token said) ss
 
-next_for : (name : List ℕ) (p : Parts) (subject : List ℕ) (time : ℕ) (ss : List Stream) → AreDistinct ss
-    → IsNext (new_for name p subject time ss) (made_of name ss) (made_of name (after_one subject ss))
-next_for name p subject time [] distinct = inl (refl, omega arith)
-next_for name p subject time (s ∷ ss) distinct =
-    elim (is_due subject session_revoked s) as (λ b.
-    IsNext (filter (is_of name) (map (next_token p subject time) (if b then s ∷ filter (is_due subject session_revoked) ss else filter (is_due subject session_revoked) ss)))
+next_for : (name : List ℕ) (p : Parts) (said : News) (time : ℕ) (ss : List Stream) → AreDistinct ss
+    → IsNext (new_for name p said time ss) (made_of name ss) (made_of name (after_one said ss))
+next_for name p said time [] distinct = inl (refl, omega arith)
+next_for name p said time (s ∷ ss) distinct =
+    elim (is_due said s) as (λ b.
+    IsNext (filter (is_of name) (map (next_token p said time) (if b then s ∷ filter (is_due said) ss else filter (is_due said) ss)))
     (made_of name (s ∷ ss))
-    (made_of name ((if b then record { client = s.client; number = s.number; conf = s.conf; made = s.made + 1 } else s) ∷ after_one subject ss))) [
+    (made_of name ((if b then record { client = s.client; number = s.number; conf = s.conf; made = s.made + 1 } else s) ∷ after_one said ss))) [
       | true ↦ elim (is_named name s) as (λ b. is_named name s ≡ b → IsNext
-          (if b then next_token p subject time s ∷ new_for name p subject time ss else new_for name p subject time ss)
-          (if b then s.made else made_of name ss) (if b then s.made + 1 else made_of name (after_one subject ss))) [
+          (if b then next_token p said time s ∷ new_for name p said time ss else new_for name p said time ss)
+          (if b then s.made else made_of name ss) (if b then s.made + 1 else made_of name (after_one said ss))) [
             | true ↦ λ is. inr (
-              next_token p subject time s,
-              ap (λ l. next_token p subject time s ∷ l) (none_for name p subject time ss (subst (λ n. stands n ss ≡ false) (same_text s.conf.stream name is) distinct.0)),
+              next_token p said time s,
+              ap (λ l. next_token p said time s ∷ l) (none_for name p said time ss (subst (λ n. stands n ss ≡ false) (same_text s.conf.stream name is) distinct.0)),
               refl,
               refl,
             )
-            | false ↦ λ is. next_for name p subject time ss distinct.1
+            | false ↦ λ is. next_for name p said time ss distinct.1
           ] refl
-      | false ↦ elim (is_named name s) as (λ b. is_named name s ≡ b → IsNext (new_for name p subject time ss)
-          (if b then s.made else made_of name ss) (if b then s.made else made_of name (after_one subject ss))) [
-            | true ↦ λ is. inl (none_for name p subject time ss (subst (λ n. stands n ss ≡ false) (same_text s.conf.stream name is) distinct.0), omega arith)
-            | false ↦ λ is. next_for name p subject time ss distinct.1
+      | false ↦ elim (is_named name s) as (λ b. is_named name s ≡ b → IsNext (new_for name p said time ss)
+          (if b then s.made else made_of name ss) (if b then s.made else made_of name (after_one said ss))) [
+            | true ↦ λ is. inl (none_for name p said time ss (subst (λ n. stands n ss ≡ false) (same_text s.conf.stream name is) distinct.0), omega arith)
+            | false ↦ λ is. next_for name p said time ss distinct.1
           ] refl
     ]
 
@@ -185,13 +184,13 @@ next_for name p subject time (s ∷ ss) distinct =
 -- a stream that a fact makes has a name that doesn't stand
 abbrev pub IsNewName : List Stream → Fact → Type 0
 IsNewName ss (Created stream iss aud requested delivery interval defaults description time) = stands stream ss ≡ false
-IsNewName ss (Published id subject time) = Unit {0}
+IsNewName ss (Published id subject event time) = Unit {0}
 IsNewName ss (Settled stream items) = Unit {0}
 
 next_by : (name : List ℕ) (p : Parts) (f : Fact) → AreDistinct p.streams → IsNewName p.streams f
     → IsNext (filter (is_of name) (made_by p f)) (made_of name p.streams) (made_of name (parts_after p f).streams)
 next_by name p (Created stream iss aud requested delivery interval defaults description time) distinct new = inl (refl, made_put name _ p.streams new)
-next_by name p (Published id subject time) distinct new = next_for name p subject time p.streams distinct
+next_by name p (Published id subject event time) distinct new = next_for name p (news subject event) time p.streams distinct
 next_by name p (Settled stream items) distinct new = inl (refl, omega arith)
 
 pub within_after : (sum : Sum) (f : Fact) (name : List ℕ) → AreDistinct sum.parts.streams → IsNewName sum.parts.streams f

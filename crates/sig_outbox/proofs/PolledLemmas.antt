@@ -1,6 +1,7 @@
 -- How a poll is answered.
 use Rattle.std.proofs.Common.{◌≡◌, ◌∙◌, ap, sym, ℕ, List, [], ◌∷◌, map, filter, true, false, not, ◌&&◌, Option, None, Some, if◌then◌else◌, refl}
 use Rattle.std.specs.Prelude.{option_map}
+use Rattle.std.specs.Option.{option_to_list}
 use Rattle.sig_outbox.specs.declared.answer.Answer.{Answer}
 use Rattle.sig_outbox.specs.declared.answer.Answer.TheVariants.{NotFound}
 use Rattle.sig_outbox.specs.declared.call.PollAsk.{PollAsk}
@@ -9,7 +10,7 @@ use Rattle.sig_outbox.specs.declared.fact.SettledItem.{SettledItem}
 use Rattle.sig_outbox.specs.declared.step.Step.{Step}
 use Rattle.sig_outbox.specs.History.{Count, Publication, Made, stands}
 use Rattle.sig_outbox.specs.Owed.{Sum, names_number, owed_by, sum_of}
-use Rattle.sig_outbox.specs.Table.{Told, has_stream, settled_items, settled_fact, facts_of, page_of, page_size, polled_answer, polled_change}
+use Rattle.sig_outbox.specs.Table.{Told, has_stream, settled_items, settled_fact, page_of, page_size, polled_answer, polled_change}
 use Rattle.sig_outbox.specs.Sound.{are_owed, each_once}
 use Rattle.sig_outbox.specs.Balance.{Owing, stream_in, made_of, tokens_owed, sum_with, owing_named, left_of}
 use Rattle.sig_outbox.specs.Kept.{Held, Ready}
@@ -46,7 +47,7 @@ not_polled s client stream ask step none answer change =
     ap (λ a. answered a (option_map fact_in step.change)) answer
     ∙ ap (λ r. answered NotFound (option_map fact_in r)) change
     ∙ ap (λ b. answered
-    (if b then page_of (page_size ask) (owed_by (sum_of s (facts_of (polled_change s client stream ask))) stream) else NotFound)
+    (if b then page_of (page_size ask) (owed_by (sum_of s (option_to_list (polled_change s client stream ask))) stream) else NotFound)
     (if b then settled_fact stream (settled_items ask (owed_by s stream)) else None)) (sym none)
 
 -- there is one
@@ -62,12 +63,12 @@ is_polled sid os created published client stream ask o has is =
     ap (λ b. if b then settled_fact stream (settled_items ask (owed_by s stream)) else None) has
     ∙ ap (λ l. settled_fact stream (settled_items ask l)) owed
     ∙ ap (settled_fact stream) (settled_tokens ask sid published o.stream o.owed) in
-    let rest : owed_by (sum_of s (facts_of (polled_change s client stream ask))) stream ≡ map (made_of sid published o.stream) (left_of items o.owed) =
-    ap (λ f. owed_by (sum_of s (facts_of f)) stream) change
+    let rest : owed_by (sum_of s (option_to_list (polled_change s client stream ask))) stream ≡ map (made_of sid published o.stream) (left_of items o.owed) =
+    ap (λ f. owed_by (sum_of s (option_to_list f)) stream) change
     ∙ left_owed s stream items (found_stands stream os o is)
     ∙ ap (filter (λ (t : Made). not (names_number t.number items))) owed
     ∙ left_tokens sid published o.stream items o.owed in
     ap (answered (page_of (page_size ask) (map (made_of sid published o.stream) (left_of items o.owed)))) (ready_fact stream items)
     ∙ ap (λ l. answered (page_of (page_size ask) l) (settled_fact stream items)) (sym rest)
-    ∙ ap (λ b. answered (if b then page_of (page_size ask) (owed_by (sum_of s (facts_of (polled_change s client stream ask))) stream) else NotFound) (settled_fact stream items)) (sym has)
+    ∙ ap (λ b. answered (if b then page_of (page_size ask) (owed_by (sum_of s (option_to_list (polled_change s client stream ask))) stream) else NotFound) (settled_fact stream items)) (sym has)
     ∙ ap (answered (polled_answer s client stream ask)) (sym change)

@@ -4,13 +4,14 @@ use Rattle.std.specs.List.{list_any, cons_option}
 use Rattle.std.proofs.lemmas.Bool.{eqb-true, eq-eqb}
 use Rattle.std.proofs.lemmas.Slice.Eq.{bytes_eq-Decides}
 use Rattle.std.proofs.lemmas.List.Elements.{All-cons, All-nil}
+use Rattle.std.specs.Option.{option_to_list}
 use Rattle.sig_outbox.specs.declared.call.PollAsk.{PollAsk}
 use Rattle.sig_outbox.specs.declared.debt.Debt.{Debt}
 use Rattle.sig_outbox.specs.declared.fact.Fact.TheVariants.{Settled}
 use Rattle.sig_outbox.specs.declared.fact.SettledItem.{SettledItem}
 use Rattle.sig_outbox.specs.History.{Stream, Publication, Made, is_named, stands, jti_of}
 use Rattle.sig_outbox.specs.Owed.{Sum, names_number, owed_after, owed_by, survives, sum_of}
-use Rattle.sig_outbox.specs.Table.{has_stream, settled_by, settled_items, settled_fact, facts_of, refused_item, refused_as, keeps, has_number}
+use Rattle.sig_outbox.specs.Table.{has_stream, settled_by, settled_items, settled_fact, refused_item, refused_as, keeps, has_number}
 use Rattle.sig_outbox.specs.Sound.{are_owed, each_once}
 use Rattle.sig_outbox.specs.Balance.{Owing, stream_in, made_of, owing_named, left_of}
 use Rattle.sig_outbox.specs.Kept.{IsRising, ArePlaced, ArePolled}
@@ -91,7 +92,7 @@ settled_tokens ask sid published s (d ∷ ds) =
 
 -- what a stream owes once items are settled
 pub left_owed : (s : Sum) (stream : List ℕ) (items : List SettledItem) → stands stream s.parts.streams ≡ true
-    → owed_by (sum_of s (facts_of (settled_fact stream items))) stream ≡ filter (λ (t : Made). not (names_number t.number items)) (owed_by s stream)
+    → owed_by (sum_of s (option_to_list (settled_fact stream items))) stream ≡ filter (λ (t : Made). not (names_number t.number items)) (owed_by s stream)
 left_owed s stream [] here =
     found (owed_after s []) stream s.parts.streams here
     ∙ append-nil (filter (survives stream s.parts []) (owed_by s stream))

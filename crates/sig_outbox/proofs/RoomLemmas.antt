@@ -3,25 +3,24 @@ use Rattle.std.proofs.Common.{◌≡◌, ◌∙◌, ap, sym, ℕ, ◌+◌, ◌�
 use Rattle.std.proofs.Math.Seq.{take-append_seam}
 use Rattle.std.proofs.lemmas.List.Elements.{All-cons, All-nil, All-head, All-tail}
 use Rattle.sig_json.specs.declared.limits.TheConstants.{LAST_NUMBER}
-use Rattle.sig_set.specs.FirstForm.{session_revoked}
-use Rattle.sig_outbox.specs.History.{is_due}
+use Rattle.sig_outbox.specs.History.{is_due, News}
 use Rattle.sig_outbox.specs.Balance.{Balance, owing_in, room_in, stream_in}
 use Rattle.sig_outbox.specs.Kept.{HasRoomFor, IsBelowTop, HaveRoom}
 use Rattle.sig_outbox.proofs.OwingLemmas.{Each}
 
-pub rooms_held : (subject : List ℕ) (bs : List Balance) → HaveRoom subject (map stream_in (map owing_in bs)) (map room_in bs) → All (HasRoomFor subject) bs
-rooms_held subject [] room = All-nil (HasRoomFor subject)
-rooms_held subject (b ∷ bs) room = All-cons (HasRoomFor subject) b bs room.0 (rooms_held subject bs room.1)
+pub rooms_held : (said : News) (bs : List Balance) → HaveRoom said (map stream_in (map owing_in bs)) (map room_in bs) → All (HasRoomFor said) bs
+rooms_held said [] room = All-nil (HasRoomFor said)
+rooms_held said (b ∷ bs) room = All-cons (HasRoomFor said) b bs room.0 (rooms_held said bs room.1)
 
-pub room_holds : (subject : List ℕ) (bs : List Balance) → All (HasRoomFor subject) bs → HaveRoom subject (map stream_in (map owing_in bs)) (map room_in bs)
-room_holds subject [] room = tt
-room_holds subject (b ∷ bs) room = (All-head (HasRoomFor subject) b bs room, room_holds subject bs (All-tail (HasRoomFor subject) b bs room))
+pub room_holds : (said : News) (bs : List Balance) → All (HasRoomFor said) bs → HaveRoom said (map stream_in (map owing_in bs)) (map room_in bs)
+room_holds said [] room = tt
+room_holds said (b ∷ bs) room = (All-head (HasRoomFor said) b bs room, room_holds said bs (All-tail (HasRoomFor said) b bs room))
 
-pub tops_below : (subject : List ℕ) (bs : List Balance) → Each (λ o. is_due subject session_revoked o.stream ≡ true → o.stream.made + 1 ≤ LAST_NUMBER) (map owing_in bs)
-    → All (IsBelowTop subject) bs
-tops_below subject [] top = All-nil (IsBelowTop subject)
-tops_below subject (b ∷ bs) top =
-    All-cons (IsBelowTop subject) b bs (λ due. let k : b.owing.stream.made + 1 ≤ LAST_NUMBER = top.0 due in omega arith) (tops_below subject bs top.1)
+pub tops_below : (said : News) (bs : List Balance) → Each (λ o. is_due said o.stream ≡ true → o.stream.made + 1 ≤ LAST_NUMBER) (map owing_in bs)
+    → All (IsBelowTop said) bs
+tops_below said [] top = All-nil (IsBelowTop said)
+tops_below said (b ∷ bs) top =
+    All-cons (IsBelowTop said) b bs (λ due. let k : b.owing.stream.made + 1 ≤ LAST_NUMBER = top.0 due in omega arith) (tops_below said bs top.1)
 
 pub and_first : (a b : Bool) → (a && b) ≡ true → a ≡ true
 and_first true b h = refl

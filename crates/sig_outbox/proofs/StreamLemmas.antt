@@ -9,7 +9,7 @@ use Rattle.std.proofs.lemmas.List.Elements.{All-cons, All-head, All-nil, All-tai
 use Rattle.std.proofs.lemmas.List.Folds.{list_any_none}
 use Rattle.std.proofs.lemmas.Slice.Eq.{bytes_eq-Decides}
 use Rattle.sig_json.specs.declared.limits.TheConstants.{LAST_NUMBER, CLIENT_NAME_BYTES}
-use Rattle.sig_outbox.specs.History.{Stream, Count, client_in, count_one, created_by, hyphen, is_before, is_due, is_named, put_in_order, stands, stream_name, with_token}
+use Rattle.sig_outbox.specs.History.{Stream, Count, client_in, count_one, created_by, hyphen, is_before, is_due, is_named, put_in_order, stands, stream_name, with_token, News}
 use Rattle.sig_outbox.specs.Sound.{is_client_name, is_name_character}
 
 -- ---- texts
@@ -66,29 +66,29 @@ all_put P s (t ∷ ts) here all =
 
 -- ---- a token more changes no name
 
-pub with_token_has : (P : Stream → Type 0) (subject uri : List ℕ) (s : Stream)
-    → P (record { client = s.client; number = s.number; conf = s.conf; made = s.made + 1 }) → P s → P (with_token subject uri s)
-with_token_has P subject uri s more same =
-    elim (is_due subject uri s) as (λ b. P (if b then record { client = s.client; number = s.number; conf = s.conf; made = s.made + 1 } else s)) [
+pub with_token_has : (P : Stream → Type 0) (said : News) (s : Stream)
+    → P (record { client = s.client; number = s.number; conf = s.conf; made = s.made + 1 }) → P s → P (with_token said s)
+with_token_has P said s more same =
+    elim (is_due said s) as (λ b. P (if b then record { client = s.client; number = s.number; conf = s.conf; made = s.made + 1 } else s)) [
       | true ↦ more
       | false ↦ same
     ]
 
-pub same_conf : (subject uri : List ℕ) (s : Stream) → (with_token subject uri s).conf ≡ s.conf
-same_conf subject uri s = with_token_has (λ (t : Stream). t.conf ≡ s.conf) subject uri s refl refl
+pub same_conf : (said : News) (s : Stream) → (with_token said s).conf ≡ s.conf
+same_conf said s = with_token_has (λ (t : Stream). t.conf ≡ s.conf) said s refl refl
 
-pub stands_map : (name subject uri : List ℕ) (ss : List Stream) → stands name (map (with_token subject uri) ss) ≡ stands name ss
-stands_map name subject uri [] = refl
-stands_map name subject uri (s ∷ ss) =
-    ap (λ c. bytes_eq c.stream name || stands name (map (with_token subject uri) ss)) (same_conf subject uri s)
-    ∙ ap (λ b. is_named name s || b) (stands_map name subject uri ss)
+pub stands_map : (name : List ℕ) (said : News) (ss : List Stream) → stands name (map (with_token said) ss) ≡ stands name ss
+stands_map name said [] = refl
+stands_map name said (s ∷ ss) =
+    ap (λ c. bytes_eq c.stream name || stands name (map (with_token said) ss)) (same_conf said s)
+    ∙ ap (λ b. is_named name s || b) (stands_map name said ss)
 
-pub distinct_map : (subject uri : List ℕ) (ss : List Stream) → AreDistinct ss → AreDistinct (map (with_token subject uri) ss)
-distinct_map subject uri [] distinct = tt
-distinct_map subject uri (s ∷ ss) distinct = (
-  ap (λ c. stands c.stream (map (with_token subject uri) ss)) (same_conf subject uri s)
-      ∙ stands_map s.conf.stream subject uri ss ∙ distinct.0,
-  distinct_map subject uri ss distinct.1,
+pub distinct_map : (said : News) (ss : List Stream) → AreDistinct ss → AreDistinct (map (with_token said) ss)
+distinct_map said [] distinct = tt
+distinct_map said (s ∷ ss) distinct = (
+  ap (λ c. stands c.stream (map (with_token said) ss)) (same_conf said s)
+      ∙ stands_map s.conf.stream said ss ∙ distinct.0,
+  distinct_map said ss distinct.1,
 )
 
 -- ---- counts

@@ -1,11 +1,14 @@
 -- Streams as they are held in memory, with what they owe in small, and what they come to.
 use Rattle.std.specs.Prelude.{ℕ, List, [], ◌∷◌, ◌++◌, ◌+◌, ◌≤◌, Bool, not, ◌&&◌, nat_lt, Option, None, Some, map, filter, slice_index_or, if◌then◌else◌}
 use Rattle.sig_json.specs.declared.limits.TheConstants.{LAST_NUMBER}
-use Rattle.sig_set.specs.FirstForm.{session_revoked}
+use Rattle.sig_subject.specs.declared.plain.Plain.TheVariants as plain
+use Rattle.sig_subject.specs.declared.simple.Simple.TheVariants as simple
+use Rattle.sig_subject.specs.declared.subject.Subject.TheVariants as subject
+use Rattle.sig_event.specs.declared.event.Event.TheVariants as event
 use Rattle.sig_outbox.specs.declared.debt.Debt.{Debt}
 use Rattle.sig_outbox.specs.declared.token.Issued.{Issued}
 use Rattle.sig_outbox.specs.declared.fact.SettledItem.{SettledItem}
-use Rattle.sig_outbox.specs.History.{Stream, Count, Publication, Made, claims_for, next_token, is_due, is_before, is_named}
+use Rattle.sig_outbox.specs.History.{Stream, Count, News, Publication, Made, claims_for, news, next_token, is_due, is_before, is_named}
 use Rattle.sig_outbox.specs.Owed.{Sum, names_number, empty_sum}
 
 -- a stream and the tokens that it owes
@@ -27,16 +30,20 @@ room_in b = b.room
 abbrev pub stream_in : Owing → Stream
 stream_in o = o.stream
 
--- the subject of the publication at a place
-abbrev pub subject_at : List Publication → ℕ → List ℕ
-subject_at published place = slice_index_or (map (λ (p : Publication). p.subject) published) place []
+-- about nobody, and nothing that is read: what stands where no publication does
+abbrev pub no_news : News
+no_news = news (subject.Simple (simple.Plain (plain.Opaque []))) (event.Other [])
+
+-- the news of the publication at a place
+abbrev pub news_at : List Publication → ℕ → News
+news_at published place = slice_index_or (map (λ (p : Publication). p.news) published) place no_news
 
 -- the token that is owed
 abbrev pub made_of : List ℕ → List Publication → Stream → Debt → Made
 made_of store_id published s d = record {
   stream = s.conf.stream;
   number = d.number;
-  claims = claims_for store_id s.conf d.number d.time (subject_at published d.place);
+  claims = claims_for store_id s.conf d.number d.time (news_at published d.place);
 }
 
 -- the tokens that a stream owes
@@ -71,10 +78,10 @@ abbrev pub put_balance : Balance → List Balance → List Balance
 put_balance b [] = b ∷ []
 put_balance b (c ∷ cs) = if is_before c.owing.stream b.owing.stream then c ∷ put_balance b cs else b ∷ c ∷ cs
 
--- a stream with one more token, where the publication at a place is due on it
-abbrev pub charged : List ℕ → List ℕ → ℕ → ℕ → Owing → Owing
-charged subject uri time place o =
-    if is_due subject uri o.stream
+-- a stream with one more token, where the news of the publication at a place are due on it
+abbrev pub charged : News → ℕ → ℕ → Owing → Owing
+charged n time place o =
+    if is_due n o.stream
     then record {
       stream = record { client = o.stream.client; number = o.stream.number; conf = o.stream.conf; made = o.stream.made + 1 };
       owed = o.owed ++ record { number = o.stream.made + 1; time = time; place = place } ∷ [];
@@ -90,19 +97,19 @@ abbrev pub paid : List ℕ → List SettledItem → Owing → Owing
 paid stream items o =
     if is_named stream o.stream then record { stream = o.stream; owed = left_of items o.owed } else o
 
--- the tokens that a publication on a subject makes on these streams
-abbrev pub tokens_on : List ℕ → List ℕ → ℕ → List Owing → List Made
-tokens_on store_id subject time owings =
-    map (next_token (empty_sum store_id).parts subject time) (filter (is_due subject session_revoked) (map stream_in owings))
+-- the tokens that news make on these streams
+abbrev pub tokens_on : List ℕ → News → ℕ → List Owing → List Made
+tokens_on store_id n time owings =
+    map (next_token (empty_sum store_id).parts n time) (filter (is_due n) (map stream_in owings))
 
 -- and how they are told
-abbrev pub issued_on : List ℕ → List Owing → List Issued
-issued_on subject owings =
-    map (λ (s : Stream). record { stream = s.conf.stream; number = s.made + 1 }) (filter (is_due subject session_revoked) (map stream_in owings))
+abbrev pub issued_on : News → List Owing → List Issued
+issued_on n owings =
+    map (λ (s : Stream). record { stream = s.conf.stream; number = s.made + 1 }) (filter (is_due n) (map stream_in owings))
 
--- a stream on which it is due, and whose next number is too great
-abbrev pub is_full : List ℕ → Owing → Bool
-is_full subject o = is_due subject session_revoked o.stream && nat_lt LAST_NUMBER (o.stream.made + 1)
+-- a stream on which they are due, and whose next number is too great
+abbrev pub is_full : News → Owing → Bool
+is_full n o = is_due n o.stream && nat_lt LAST_NUMBER (o.stream.made + 1)
 
 -- the number of its last token is one
 abbrev pub IsNumbered : Balance → Type 0

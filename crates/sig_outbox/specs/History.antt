@@ -4,8 +4,10 @@ use Rattle.std.specs.List.{list_any}
 use Rattle.std.specs.Cmp.Lexicographic.{slice_cmp}
 use Rattle.std.specs.Ordering.{is_lt, nat_cmp}
 use Rattle.uuid.specs.Text.{hyphenated_text, lower}
-use Rattle.sig_set.specs.declared.claims.Claims.{Claims}
-use Rattle.sig_set.specs.FirstForm.{session_revoked}
+use Rattle.sig_subject.specs.declared.subject.Subject.{Subject}
+use Rattle.sig_event.specs.declared.claims.Claims.{Claims}
+use Rattle.sig_event.specs.declared.event.Event.{Event}
+use Rattle.sig_event.specs.Events.{uri_of}
 use Rattle.sig_outbox.specs.declared.want.Defaults.{Defaults}
 use Rattle.sig_outbox.specs.declared.want.Defaults.TheVariants as defaults
 use Rattle.sig_outbox.specs.declared.configuration.StreamConf.{StreamConf}
@@ -25,10 +27,15 @@ pub record Count : Type 0 where
   pub client : List ℕ
   pub count : ℕ
 
+-- what a publication says: whom it is about, and what happened
+pub record News : Type 0 where
+  pub subject : Subject
+  pub event : Event
+
 -- a publication, with the tokens that it made
 pub record Publication : Type 0 where
   pub id : List ℕ
-  pub subject : List ℕ
+  pub news : News
   pub issued : List Issued
 
 -- a token that a fact makes
@@ -97,53 +104,59 @@ is_requested uri None = true
 is_requested uri (Some uris) = list_any (bytes_eq uri) uris
 
 -- whether the default subjects have a subject; no stream has added or removed one so far
-abbrev pub has_subject : Defaults → List ℕ → Bool
+abbrev pub has_subject : Defaults → Subject → Bool
 has_subject defaults.All subject = true
 has_subject defaults.None subject = false
 
--- whether a publication on a subject is due on a stream (Shared Signals Framework 1.0, sections 7 and 8.1.1)
-abbrev pub is_due : List ℕ → List ℕ → Stream → Bool
-is_due subject uri s = is_requested uri s.conf.requested && has_subject s.conf.defaults subject
+-- what a subject and an event say
+abbrev pub news : Subject → Event → News
+news subject event = record { subject = subject; event = event }
 
--- the streams on which it is due, in order of client name and number
-abbrev pub due : Parts → List ℕ → List ℕ → List Stream
-due parts subject uri = filter (is_due subject uri) parts.streams
+-- whether news are due on a stream (Shared Signals Framework 1.0, sections 7 and 8.1.1)
+abbrev pub is_due : News → Stream → Bool
+is_due n s = is_requested (uri_of n.event) s.conf.requested && has_subject s.conf.defaults n.subject
+
+-- the streams on which they are due, in order of client name and number
+abbrev pub due : Parts → News → List Stream
+due parts n = filter (is_due n) parts.streams
 
 -- a token's identifier: the store, the stream and its number, with dots between
 abbrev pub jti_of : List ℕ → List ℕ → ℕ → List ℕ
 jti_of store_id stream number = hyphenated_text lower store_id ++ codes "." ++ stream ++ codes "." ++ decimal number
 
--- what a token says: its stream's issuer and audience, its identifier, when it was made, and whose session is revoked
-abbrev pub claims_for : List ℕ → StreamConf → ℕ → ℕ → List ℕ → Claims
-claims_for store_id conf number time subject = record {
+-- what a token says: its stream's issuer and audience, its identifier, when it was made, whom it is about, and what
+-- happened
+abbrev pub claims_for : List ℕ → StreamConf → ℕ → ℕ → News → Claims
+claims_for store_id conf number time n = record {
   iss = conf.iss;
   jti = jti_of store_id conf.stream number;
   iat = time;
   aud = conf.aud;
-  subject = subject;
+  subject = n.subject;
+  events = n.event ∷ [];
 }
 
--- the next token of a stream, about a subject whose session is revoked, made at a time
-abbrev pub next_token : Parts → List ℕ → ℕ → Stream → Made
-next_token parts subject time s = record {
+-- the next token of a stream, which tells news and is made at a time
+abbrev pub next_token : Parts → News → ℕ → Stream → Made
+next_token parts n time s = record {
   stream = s.conf.stream;
   number = s.made + 1;
-  claims = claims_for parts.store_id s.conf (s.made + 1) time subject;
+  claims = claims_for parts.store_id s.conf (s.made + 1) time n;
 }
 
 -- the tokens that a fact makes, over the parts before it: one for each stream on which a publication is due
 abbrev pub made_by : Parts → Fact → List Made
 made_by parts (Created stream iss aud requested delivery interval defaults description time) = []
-made_by parts (Published id subject time) = map (next_token parts subject time) (due parts subject session_revoked)
+made_by parts (Published id subject event time) = map (next_token parts (news subject event) time) (due parts (news subject event))
 made_by parts (Settled stream items) = []
 
 abbrev pub issued_of : Made → Issued
 issued_of t = record { stream = t.stream; number = t.number }
 
--- a stream with one more token, where a publication is due on it
-abbrev pub with_token : List ℕ → List ℕ → Stream → Stream
-with_token subject uri s =
-    if is_due subject uri s
+-- a stream with one more token, where news are due on it
+abbrev pub with_token : News → Stream → Stream
+with_token n s =
+    if is_due n s
     then record { client = s.client; number = s.number; conf = s.conf; made = s.made + 1 }
     else s
 
@@ -159,12 +172,12 @@ with_stream parts client conf = record {
 }
 
 -- the parts with a publication
-abbrev pub with_publication : Parts → List ℕ → List ℕ → List Made → Parts
-with_publication parts id subject tokens = record {
+abbrev pub with_publication : Parts → List ℕ → News → List Made → Parts
+with_publication parts id n tokens = record {
   store_id = parts.store_id;
-  streams = map (with_token subject session_revoked) parts.streams;
+  streams = map (with_token n) parts.streams;
   created = parts.created;
-  published = parts.published ++ record { id = id; subject = subject; issued = map issued_of tokens } ∷ [];
+  published = parts.published ++ record { id = id; news = n; issued = map issued_of tokens } ∷ [];
 }
 
 -- the parts after a fact
@@ -180,8 +193,8 @@ parts_after parts (Created stream iss aud requested delivery interval defaults d
       defaults = defaults;
       description = description;
     })
-parts_after parts (Published id subject time) =
-    with_publication parts id subject (made_by parts (Published id subject time))
+parts_after parts (Published id subject event time) =
+    with_publication parts id (news subject event) (made_by parts (Published id subject event time))
 parts_after parts (Settled stream items) = parts
 
 -- the parts after facts, one after another

@@ -1,13 +1,12 @@
 -- What a transmitter holds in memory: what it comes to, and for what there is room.
 use Rattle.std.specs.Prelude.{◌≡◌, ℕ, ◌+◌, ◌<◌, ◌≤◌, ◌^◌, List, [], ◌∷◌, true, false, map}
 use Rattle.sig_json.specs.declared.limits.TheConstants.{LAST_NUMBER}
-use Rattle.sig_set.specs.FirstForm.{session_revoked}
 use Rattle.sig_outbox.specs.declared.carried.Carried.{Carried}
 use Rattle.sig_outbox.specs.declared.carried.Carried.TheVariants as carried
 use Rattle.sig_outbox.specs.declared.debt.Debt.{Debt}
 use Rattle.sig_outbox.specs.declared.fact.Fact.{Fact}
 use Rattle.sig_outbox.specs.declared.fact.Fact.TheVariants.{Created, Published, Settled}
-use Rattle.sig_outbox.specs.History.{Stream, Count, Parts, stream_name, client_in, created_by, stands, is_due, made_by, issued_of}
+use Rattle.sig_outbox.specs.History.{Stream, Count, News, Parts, stream_name, client_in, created_by, stands, is_due, made_by, issued_of, news}
 use Rattle.sig_outbox.specs.Owed.{Sum}
 use Rattle.sig_outbox.specs.Balance.{Owing, Balance, stream_in}
 
@@ -61,32 +60,32 @@ pub record Ready : Type 0 where
   pub fact : Fact
   pub carried : Carried
 
--- a stream on which a publication is due has room for a token
-abbrev pub HasRoomFor : List ℕ → Balance → Type 0
-HasRoomFor subject b = is_due subject session_revoked b.owing.stream ≡ true → 0 < b.room
+-- a stream on which news are due has room for a token
+abbrev pub HasRoomFor : News → Balance → Type 0
+HasRoomFor n b = is_due n b.owing.stream ≡ true → 0 < b.room
 
 -- and its next number is one
-abbrev pub IsBelowTop : List ℕ → Balance → Type 0
-IsBelowTop subject b = is_due subject session_revoked b.owing.stream ≡ true → b.owing.stream.made + 1 < 2 ^ 64
+abbrev pub IsBelowTop : News → Balance → Type 0
+IsBelowTop n b = is_due n b.owing.stream ≡ true → b.owing.stream.made + 1 < 2 ^ 64
 
--- each stream on which a publication is due has room for a token
-abbrev pub HaveRoom : List ℕ → List Stream → List ℕ → Type 0
-HaveRoom subject [] rooms = Unit {0}
-HaveRoom subject (s ∷ ss) [] = ⊥
-HaveRoom subject (s ∷ ss) (n ∷ ns) = (is_due subject session_revoked s ≡ true → 0 < n) × HaveRoom subject ss ns
+-- each stream on which news are due has room for a token
+abbrev pub HaveRoom : News → List Stream → List ℕ → Type 0
+HaveRoom n [] rooms = Unit {0}
+HaveRoom n (s ∷ ss) [] = ⊥
+HaveRoom n (s ∷ ss) (room ∷ rooms) = (is_due n s ≡ true → 0 < room) × HaveRoom n ss rooms
 
 -- what is carried is what the fact needs
 abbrev pub IsCarried : Parts → Fact → Carried → Type 0
 IsCarried parts (Created stream iss aud requested delivery interval defaults description time) (carried.Client name counted) =
     (name ≡ client_in stream) × (counted ≡ client_in stream)
-IsCarried parts (Published id subject time) (carried.Issued tokens) = tokens ≡ map issued_of (made_by parts (Published id subject time))
+IsCarried parts (Published id subject event time) (carried.Issued tokens) = tokens ≡ map issued_of (made_by parts (Published id subject event time))
 IsCarried parts (Settled stream items) carried.Nothing = Unit {0}
 IsCarried parts f c = ⊥
 
 -- there is room for what the fact makes
 abbrev pub HasSpace : Parts → Rooms → Fact → Type 0
 HasSpace parts room (Created stream iss aud requested delivery interval defaults description time) = (0 < room.streams) × (0 < room.created)
-HasSpace parts room (Published id subject time) = (0 < room.published) × HaveRoom subject parts.streams room.tokens
+HasSpace parts room (Published id subject event time) = (0 < room.published) × HaveRoom (news subject event) parts.streams room.tokens
 HasSpace parts room (Settled stream items) = Unit {0}
 
 -- a fact may be taken in without memory

@@ -22,7 +22,7 @@ names_number number items = list_any (λ (i : SettledItem). i.number == number) 
 -- whether a later fact takes a stream's token off: it was settled
 abbrev pub takes_off : List ℕ → Fact → Made → Bool
 takes_off name (Created stream iss aud requested delivery interval defaults description time) t = false
-takes_off name (Published id subject time) t = false
+takes_off name (Published id subject event time) t = false
 takes_off name (Settled stream items) t = bytes_eq stream name && names_number t.number items
 
 -- the stream stands throughout, and no later fact takes the token off

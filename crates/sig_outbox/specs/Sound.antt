@@ -1,7 +1,13 @@
 -- Facts that fit a history, and rules and calls that are proper.
-use Rattle.std.specs.Prelude.{◌≡◌, ℕ, List, [], ◌∷◌, ◌+◌, Bool, true, not, ◌&&◌, ◌||◌, bytes_eq, length, nat_lt, nat_le}
+use Rattle.std.specs.Prelude.{◌≡◌, ◌≤◌, ℕ, List, [], ◌∷◌, ◌+◌, Bool, true, false, not, ◌&&◌, ◌||◌, Option, Some, None, bytes_eq, codes, length, nat_lt, nat_le}
 use Rattle.std.specs.List.{list_any, list_all}
 use Rattle.std.specs.Str.{is_utf8}
+use Rattle.serde_json.specs.Data.{Data, object, no_members, member, depth}
+use Rattle.serde_json.specs.Read.{max_depth}
+use Rattle.sig_subject.specs.Written.{IsProperSubject, subject_data}
+use Rattle.sig_event.specs.declared.event_type.EventType.{EventType}
+use Rattle.sig_event.specs.declared.event_type.EventType.TheVariants as types
+use Rattle.sig_event.specs.Events.{IsProperEvent, payload_of, type_of_event, uri_of}
 use Rattle.sig_json.specs.declared.limits.TheConstants.{LAST_NUMBER, STREAMS_PER_CLIENT, CLIENT_NAME_BYTES}
 use Rattle.sig_outbox.specs.declared.rules.Client.{Client}
 use Rattle.sig_outbox.specs.declared.rules.Rules.{Rules}
@@ -10,7 +16,7 @@ use Rattle.sig_outbox.specs.declared.call.Call.TheVariants.{Create, Poll, Publis
 use Rattle.sig_outbox.specs.declared.fact.Fact.{Fact}
 use Rattle.sig_outbox.specs.declared.fact.Fact.TheVariants as fact
 use Rattle.sig_outbox.specs.declared.fact.SettledItem.{SettledItem}
-use Rattle.sig_outbox.specs.History.{Parts, Made, client_in, stream_name, created_by, stands, made_by}
+use Rattle.sig_outbox.specs.History.{Parts, Made, News, client_in, stream_name, created_by, stands, made_by, news}
 use Rattle.sig_outbox.specs.Owed.{Sum, names_number, owed_by, sum_of}
 use Rattle.sig_outbox.specs.Table.{streams_of, has_number, is_past, is_long}
 
@@ -48,7 +54,7 @@ are_owed items owed = list_all (λ (i : SettledItem). has_number i.number owed) 
 abbrev pub is_fitting : Sum → Fact → Bool
 is_fitting sum (fact.Created stream iss aud requested delivery interval defaults description time) =
     is_next sum.parts (client_in stream) stream
-is_fitting sum (fact.Published id subject time) = may_be_made (made_by sum.parts (fact.Published id subject time))
+is_fitting sum (fact.Published id subject event time) = may_be_made (made_by sum.parts (fact.Published id subject event time))
 is_fitting sum (fact.Settled stream items) =
     stands stream sum.parts.streams && are_owed items (owed_by sum stream) && each_once items
 
@@ -60,9 +66,9 @@ abbrev pub is_sound : Sum → List Fact → Bool
 is_sound base [] = true
 is_sound base (f ∷ fs) = is_fitting base f && is_sound (sum_of base (f ∷ [])) fs
 
--- a client's name is one, and its audience is a text
+-- a client's name is one, and its audience is texts
 abbrev pub is_proper_client : Client → Bool
-is_proper_client c = is_client_name c.name && is_utf8 c.aud
+is_proper_client c = is_client_name c.name && list_all is_utf8 c.aud
 
 -- rules that settings may hold
 abbrev pub is_proper_rules : Rules → Bool
@@ -71,12 +77,31 @@ is_proper_rules rules = is_utf8 rules.issuer && list_all is_proper_client rules.
 abbrev pub IsProperRules : Rules → Type 0
 IsProperRules rules = is_proper_rules rules ≡ true
 
--- a call that requests and scripts make: a subject's identifier is a text that isn't empty
-abbrev pub is_proper_call : Call → Bool
-is_proper_call (Create client want) = true
-is_proper_call (Poll client stream ask) = true
-is_proper_call (Publish id subject) = is_utf8 subject && nat_lt 0 (length subject)
-is_proper_call (Settle stream number outcome) = true
+-- an event type that a transmitter publishes: those of CAEP and of RISC (CAEP 1.0, section 3; RISC 1.0, section 2)
+abbrev pub is_published : Option EventType → Bool
+is_published None = false
+is_published (Some (types.Caep type)) = true
+is_published (Some (types.Risc type)) = true
+is_published (Some types.Verification) = false
+is_published (Some types.StreamUpdated) = false
 
+-- the subject and the events of a payload, as one object
+abbrev pub told_data : News → Data
+told_data n = object
+    (member (codes "events") (object (member (uri_of n.event) (payload_of n.event) no_members))
+    (member (codes "sub_id") (subject_data n.subject) no_members))
+
+-- news that may be published: a proper subject, a proper event about it of a type that is published, and both nest in a
+-- token no deeper than is read
+pub record IsProperNews (n : News) : Type 0 where
+  pub subject : IsProperSubject n.subject
+  pub event : IsProperEvent n.event n.subject
+  pub type : is_published (type_of_event n.event) ≡ true
+  pub nests : depth (told_data n) ≤ max_depth
+
+-- a call that requests and scripts make
 abbrev pub IsProperCall : Call → Type 0
-IsProperCall call = is_proper_call call ≡ true
+IsProperCall (Create client want) = Unit {0}
+IsProperCall (Poll client stream ask) = Unit {0}
+IsProperCall (Publish id subject event) = IsProperNews (news subject event)
+IsProperCall (Settle stream number outcome) = Unit {0}

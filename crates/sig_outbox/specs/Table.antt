@@ -4,7 +4,11 @@ use Rattle.std.specs.Prelude.{ℕ, List, [], ◌∷◌, ◌+◌, ◌==◌, Bool,
 use Rattle.std.specs.List.{list_any, filter_map}
 use Rattle.std.specs.Option.{option_to_list}
 use Rattle.sig_json.specs.declared.limits.TheConstants.{LAST_NUMBER, PAYLOAD_BYTES, STREAMS_PER_CLIENT, TOKENS_PER_PAGE}
-use Rattle.sig_set.specs.Written.{payload_text_of}
+use Rattle.serde_json.specs.Written.{compact_text}
+use Rattle.sig_subject.specs.Matching.{is_identical}
+use Rattle.sig_event.specs.declared.event.Event.{Event}
+use Rattle.sig_event.specs.Events.{payload_of, uri_of}
+use Rattle.sig_set.specs.Written.{payload_text_of, without_fraction}
 use Rattle.sig_outbox.specs.declared.want.Want.{Want}
 use Rattle.sig_outbox.specs.declared.want.Delivery.TheVariants as delivery
 use Rattle.sig_outbox.specs.declared.configuration.StreamConf.{StreamConf}
@@ -24,7 +28,7 @@ use Rattle.sig_outbox.specs.declared.step.PrepareFault.TheVariants as faults
 use Rattle.sig_outbox.specs.declared.fact.Fact.{Fact}
 use Rattle.sig_outbox.specs.declared.fact.Fact.TheVariants as fact
 use Rattle.sig_outbox.specs.declared.fact.SettledItem.{SettledItem}
-use Rattle.sig_outbox.specs.History.{Stream, Parts, Made, Publication, stream_name, created_by, is_named, made_by, issued_of}
+use Rattle.sig_outbox.specs.History.{Stream, Parts, Made, News, Publication, stream_name, created_by, is_named, made_by, issued_of, news}
 use Rattle.sig_outbox.specs.Owed.{Sum, owed_by, offered_by, sum_of}
 
 -- the client of a name, where one is configured
@@ -40,7 +44,7 @@ streams_of client streams = length (filter (λ (s : Stream). bytes_eq s.client c
 abbrev pub has_stream : List ℕ → List ℕ → List Stream → Bool
 has_stream client name streams = list_any (λ (s : Stream). bytes_eq s.client client && is_named name s) streams
 
--- the configuration of a client's stream
+-- the configuration of a client's stream (Shared Signals Framework 1.0, section 8.1.1)
 abbrev pub conf_of : Rules → Client → Want → ℕ → StreamConf
 conf_of rules client want number = record {
   stream = stream_name client.name number;
@@ -61,7 +65,7 @@ next_conf rules parts client want = conf_of rules client want (created_by client
 abbrev pub created_fact : StreamConf → ℕ → Fact
 created_fact c now = fact.Created c.stream c.iss c.aud c.requested c.delivery c.interval c.defaults c.description now
 
--- what a client that makes a stream is answered
+-- what a client that makes a stream is answered (Shared Signals Framework 1.0, section 8.1.1.1)
 abbrev pub made_answer : Rules → Parts → Want → Option Client → Answer
 made_answer rules parts want None = answer.NotFound
 made_answer rules parts want (Some client) =
@@ -118,18 +122,13 @@ settled_fact stream (i ∷ items) = Some (fact.Settled stream (i ∷ items))
 abbrev pub token_of : Made → Token
 token_of t = record { stream = t.stream; number = t.number; claims = t.claims }
 
--- how many tokens a page has at most
+-- how many tokens a page has at most (RFC 8936, section 2.4)
 abbrev pub page_size : PollAsk → ℕ
 page_size ask = min (unwrap_or ask.max TOKENS_PER_PAGE) TOKENS_PER_PAGE
 
--- the first tokens that are offered, and whether there are further ones
+-- the first tokens that are offered, and whether there are further ones (RFC 8936, section 2.4)
 abbrev pub page_of : ℕ → List Made → Answer
 page_of size offered = answer.Sets (map token_of (take size offered)) (nat_lt size (length offered))
-
--- a list of facts with one of them at most
-abbrev pub facts_of : Option Fact → List Fact
-facts_of None = []
-facts_of (Some f) = f ∷ []
 
 -- the fact of a poll
 abbrev pub polled_change : Sum → List ℕ → List ℕ → PollAsk → Option Fact
@@ -140,7 +139,7 @@ polled_change sum client stream ask =
 abbrev pub polled_answer : Sum → List ℕ → List ℕ → PollAsk → Answer
 polled_answer sum client stream ask =
     if has_stream client stream sum.parts.streams
-    then page_of (page_size ask) (offered_by (sum_of sum (facts_of (polled_change sum client stream ask))) stream)
+    then page_of (page_size ask) (offered_by (sum_of sum (option_to_list (polled_change sum client stream ask))) stream)
     else answer.NotFound
 
 -- the first publication of an id
@@ -157,16 +156,29 @@ largest (t ∷ ts) = max (length (payload_text_of t.claims)) (largest ts)
 abbrev pub is_long : List Made → Bool
 is_long tokens = nat_lt PAYLOAD_BYTES (largest tokens)
 
--- the tokens that a publication would make
-abbrev pub publishes : Parts → List ℕ → List ℕ → ℕ → List Made
-publishes parts id subject now = made_by parts (fact.Published id subject now)
+-- the fact that news were published
+abbrev pub published_fact : List ℕ → News → ℕ → Fact
+published_fact id n now = fact.Published id n.subject n.event now
+
+-- the tokens that news would make
+abbrev pub publishes : Parts → List ℕ → News → ℕ → List Made
+publishes parts id n now = made_by parts (published_fact id n now)
+
+-- the payload of an event as text
+abbrev pub event_text : Event → List ℕ
+event_text e = compact_text (without_fraction (payload_of e))
+
+-- the same news: identical subjects, and events of one type whose payloads are written alike
+abbrev pub is_same_news : News → News → Bool
+is_same_news a b =
+    is_identical a.subject b.subject && bytes_eq (uri_of a.event) (uri_of b.event) && bytes_eq (event_text a.event) (event_text b.event)
 
 -- what a publication is answered; its id may have been used before
-abbrev pub published_answer : Parts → List ℕ → List Made → Option Publication → Answer
-published_answer parts subject tokens None =
+abbrev pub published_answer : Parts → News → List Made → Option Publication → Answer
+published_answer parts n tokens None =
     if is_long tokens then answer.Long (largest tokens) else answer.Published parts.store_id (map issued_of tokens)
-published_answer parts subject tokens (Some p) =
-    if bytes_eq p.subject subject then answer.Published parts.store_id p.issued else answer.Conflict
+published_answer parts n tokens (Some p) =
+    if is_same_news p.news n then answer.Published parts.store_id p.issued else answer.Conflict
 
 abbrev pub published_change : Fact → List Made → Option Publication → Option Fact
 published_change f tokens None = if is_long tokens then None else Some f
@@ -180,7 +192,7 @@ abbrev pub published_over_top : List Made → Option Publication → Bool
 published_over_top tokens None = not (is_long tokens) && list_any is_past tokens
 published_over_top tokens (Some p) = false
 
--- the code of an answer that settles, or none where it settles nothing
+-- the code of an answer that settles, or none where it settles nothing (RFC 8935, section 2)
 abbrev pub outcome_item : ℕ → Outcome → Option SettledItem
 outcome_item number Accepted = Some (record { number = number; code = None })
 outcome_item number (Reported code) = Some (record { number = number; code = Some code })
@@ -199,24 +211,24 @@ settling sum stream number outcome =
 unfoldable pub answer_of : Rules → Sum → Call → ℕ → Answer
 answer_of rules sum (Create client want) now = made_answer rules sum.parts want (client_of client rules.clients)
 answer_of rules sum (Poll client stream ask) now = polled_answer sum client stream ask
-answer_of rules sum (Publish id subject) now =
-    published_answer sum.parts subject (publishes sum.parts id subject now) (publication_of id sum.parts.published)
+answer_of rules sum (Publish id subject event) now =
+    published_answer sum.parts (news subject event) (publishes sum.parts id (news subject event) now) (publication_of id sum.parts.published)
 answer_of rules sum (Settle stream number outcome) now = answer.Settled (length (settling sum stream number outcome))
 
 -- the fact, where the call makes one
 unfoldable pub change_of : Rules → Sum → Call → ℕ → Option Fact
 change_of rules sum (Create client want) now = made_change rules sum.parts want now (client_of client rules.clients)
 change_of rules sum (Poll client stream ask) now = polled_change sum client stream ask
-change_of rules sum (Publish id subject) now =
-    published_change (fact.Published id subject now) (publishes sum.parts id subject now) (publication_of id sum.parts.published)
+change_of rules sum (Publish id subject event) now =
+    published_change (fact.Published id subject event now) (publishes sum.parts id (news subject event) now) (publication_of id sum.parts.published)
 change_of rules sum (Settle stream number outcome) now = settled_fact stream (settling sum stream number outcome)
 
 -- whether a stream or a token would get a number above LAST_NUMBER; asked after every refusal
 unfoldable pub over_top : Rules → Sum → Call → ℕ → Bool
 over_top rules sum (Create client want) now = made_over_top sum.parts (client_of client rules.clients)
 over_top rules sum (Poll client stream ask) now = false
-over_top rules sum (Publish id subject) now =
-    published_over_top (publishes sum.parts id subject now) (publication_of id sum.parts.published)
+over_top rules sum (Publish id subject event) now =
+    published_over_top (publishes sum.parts id (news subject event) now) (publication_of id sum.parts.published)
 over_top rules sum (Settle stream number outcome) now = false
 
 -- an answer, with the fact that the call makes
@@ -237,7 +249,7 @@ abbrev pub stream_told : Rules → Parts → Want → ℕ → Option Client → 
 stream_told rules parts want now found = told_by (made_over_top parts found) (made_answer rules parts want found) (made_change rules parts want now found)
 
 -- how a publication is answered, by the first one of its id
-abbrev pub publication_told : Parts → List ℕ → List ℕ → ℕ → Option Publication → Result Told PrepareFault
-publication_told parts id subject now found =
-    told_by (published_over_top (publishes parts id subject now) found) (published_answer parts subject (publishes parts id subject now) found)
-    (published_change (fact.Published id subject now) (publishes parts id subject now) found)
+abbrev pub publication_told : Parts → List ℕ → News → ℕ → Option Publication → Result Told PrepareFault
+publication_told parts id n now found =
+    told_by (published_over_top (publishes parts id n now) found) (published_answer parts n (publishes parts id n now) found)
+    (published_change (published_fact id n now) (publishes parts id n now) found)

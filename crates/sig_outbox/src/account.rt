@@ -7,8 +7,9 @@ ghost use Rattle.sig_outbox.specs.History as history;
 use crate::debt::Debt;
 use crate::names::{is_listed, names_number};
 use crate::{Defaults, SettledItem, StreamConf};
+use sig_event::Event;
 use sig_json::{Items, Memory, Text};
-use sig_set::SESSION_REVOKED;
+use sig_subject::Subject;
 use std::alloc::Global;
 use std::marker::Model;
 
@@ -40,8 +41,8 @@ impl Model for Account {
 impl Account {
     ghost use Rattle.sig_outbox.specs.Balance.{Balance, opened_balance, charged, paid};
     ghost use Rattle.sig_outbox.specs.History as history;
+    ghost use Rattle.sig_outbox.specs.History.{news};
     ghost use Rattle.sig_outbox.specs.Kept.{HasRoomFor};
-    ghost use Rattle.sig_set.specs.FirstForm.{session_revoked};
 
     /// A new stream, for which no token was made.
     pub(crate) fn open(alloc: Global, client: Text, number: u64, conf: StreamConf) -> Account
@@ -99,32 +100,31 @@ impl Account {
             || (self.client == other.client && self.number < other.number)
     }
 
-    /// Whether a publication on the subject is due on it (Shared Signals Framework 1.0, sections 7 and 8.1.1).
-    pub(crate) fn is_due(&self, subject: &Text) -> bool
-        ensures { result ≡ history.is_due subject.now session_revoked self.now.owing.stream }
+    /// Whether the event on the subject is due on it (Shared Signals Framework 1.0, sections 7 and 8.1.1).
+    pub(crate) fn is_due(&self, subject: &Subject, event: &Event) -> bool
+        ensures { result ≡ history.is_due (news subject.now event.now) self.now.owing.stream }
     {
-        is_requested(SESSION_REVOKED, &self.conf.requested)
-            && has_subject(self.conf.defaults, subject)
+        is_requested(event.uri(), &self.conf.requested) && has_subject(self.conf.defaults, subject)
     }
 
-    /// Room for one more token, where a publication on the subject is due on it.
-    pub(crate) fn reserve_for(&mut self, subject: &Text) -> Result<(), Memory>
+    /// Room for one more token, where the event on the subject is due on it.
+    pub(crate) fn reserve_for(&mut self, subject: &Subject, event: &Event) -> Result<(), Memory>
         ensures same { self.new.owing ≡ self.old.owing }
-        ensures ok { OnOk result (HasRoomFor subject.now self.new) }
+        ensures ok { OnOk result (HasRoomFor (news subject.now event.now) self.new) }
     {
-        if self.is_due(subject) {
+        if self.is_due(subject, event) {
             self.owed.reserve(1)?;
         }
         Ok(())
     }
 
     /// Makes a token, where the publication at a place is due on it.
-    pub(crate) fn charge(&mut self, subject: &Text, time: u64, place: usize)
-        requires room { history.is_due subject.now session_revoked self.old.owing.stream ≡ true → 0 < self.old.room }
-        requires number { history.is_due subject.now session_revoked self.old.owing.stream ≡ true → self.old.owing.stream.made + 1 < 2 ^ 64 }
-        ensures { self.new.owing ≡ charged subject.now session_revoked time place self.old.owing }
+    pub(crate) fn charge(&mut self, subject: &Subject, event: &Event, time: u64, place: usize)
+        requires room { history.is_due (news subject.now event.now) self.old.owing.stream ≡ true → 0 < self.old.room }
+        requires number { history.is_due (news subject.now event.now) self.old.owing.stream ≡ true → self.old.owing.stream.made + 1 < 2 ^ 64 }
+        ensures { self.new.owing ≡ charged (news subject.now event.now) time place self.old.owing }
     {
-        if self.is_due(subject) {
+        if self.is_due(subject, event) {
             self.made += 1;
             let _ = self.owed.push(Debt {
                 number: self.made,
@@ -162,7 +162,7 @@ fn is_requested(uri: &str, requested: &Option<Items<Text>>) -> bool
 }
 
 // Whether the default subjects have a subject; no stream has added or removed one so far.
-fn has_subject(defaults: Defaults, _subject: &Text) -> bool
+fn has_subject(defaults: Defaults, _subject: &Subject) -> bool
     ensures { result ≡ history.has_subject defaults _subject.now }
 {
     defaults == Defaults::All

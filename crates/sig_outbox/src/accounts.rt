@@ -2,7 +2,6 @@
 
 ghost use Rattle.std.specs.Prelude.{◌≡◌, ℕ, ◌+◌, ◌<◌, ◌≤◌, ◌^◌, All, OnOk, OnErr, None, Some, length, map, true, option_map, vec_len, vec_capacity};
 ghost use Rattle.std.specs.List.{insert, slice_get};
-ghost use Rattle.sig_set.specs.FirstForm.{session_revoked};
 ghost use Rattle.sig_outbox.specs.History as history;
 ghost use Rattle.sig_outbox.specs.Table as table;
 ghost use Rattle.sig_outbox.specs.Balance.{Balance, owing_in, stream_in, owing_named, put_balance, charged, paid};
@@ -11,7 +10,9 @@ ghost use Rattle.sig_outbox.specs.Kept.{HasRoomFor, IsBelowTop};
 use crate::account::Account;
 use crate::counted::Counted;
 use crate::{Client, SettledItem};
+use sig_event::Event;
 use sig_json::{Memory, Text};
+use sig_subject::Subject;
 
 /// The first stream of a name.
 pub(crate) fn account_named<'a>(accounts: &'a [Account], name: &str) -> Option<&'a Account>
@@ -61,24 +62,34 @@ pub(crate) fn put(accounts: &mut Vec<Account>, new: Account)
 }
 
 /// Room for one more token on each stream on which a publication is due.
-pub(crate) fn reserve_due(accounts: &mut [Account], subject: &Text) -> Result<(), Memory>
+pub(crate) fn reserve_due(
+    accounts: &mut [Account],
+    subject: &Subject,
+    event: &Event,
+) -> Result<(), Memory>
     ensures same { map owing_in accounts.new ≡ map owing_in accounts.old }
-    ensures ok { OnOk result (All (HasRoomFor subject.now) accounts.new) }
+    ensures ok { OnOk result (All (HasRoomFor (history.news subject.now event.now)) accounts.new) }
 {
     for account in accounts.iter_mut() {
-        account.reserve_for(subject)?;
+        account.reserve_for(subject, event)?;
     }
     Ok(())
 }
 
 /// Makes a token on each stream on which the publication at a place is due.
-pub(crate) fn charge_all(accounts: &mut [Account], subject: &Text, time: u64, place: usize)
-    requires rooms { All (HasRoomFor subject.now) accounts.old }
-    requires numbers { All (IsBelowTop subject.now) accounts.old }
-    ensures { map owing_in accounts.new ≡ map (charged subject.now session_revoked time place) (map owing_in accounts.old) }
+pub(crate) fn charge_all(
+    accounts: &mut [Account],
+    subject: &Subject,
+    event: &Event,
+    time: u64,
+    place: usize,
+)
+    requires rooms { All (HasRoomFor (history.news subject.now event.now)) accounts.old }
+    requires numbers { All (IsBelowTop (history.news subject.now event.now)) accounts.old }
+    ensures { map owing_in accounts.new ≡ map (charged (history.news subject.now event.now) time place) (map owing_in accounts.old) }
 {
     for account in accounts.iter_mut() {
-        account.charge(subject, time, place);
+        account.charge(subject, event, time, place);
     }
 }
 

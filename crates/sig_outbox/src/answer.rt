@@ -32,7 +32,7 @@ pub enum Answer {
     NotFound,
     /// The client has 16 streams already.
     TooMany,
-    /// The publication's name was used for another subject.
+    /// The publication's name was used for another subject or event.
     Conflict,
     /// A token that it would make has a payload of more than 6,000 bytes.
     Long {

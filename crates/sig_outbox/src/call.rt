@@ -1,5 +1,7 @@
 use crate::Want;
+use sig_event::Event;
 use sig_json::{Items, Text};
+use sig_subject::Subject;
 
 /// A call at the transmitter.
 #[derive(Debug, PartialEq, Drop)]
@@ -24,8 +26,10 @@ pub enum Call {
     Publish {
         /// The publication's own name; under it the same publication comes again.
         id: Text,
-        /// The opaque identifier of the subject whose session is revoked (RFC 9493, section 3.2.4).
-        subject: Text,
+        /// Whom it is about (RFC 9493).
+        subject: Subject,
+        /// What happened.
+        event: Event,
     },
     /// The answer to a token that was brought to its receiver (RFC 8935, section 2).
     Settle {

@@ -10,7 +10,7 @@ pub struct StreamConf {
     /// Who makes its tokens.
     pub iss: Text,
     /// Whom its tokens are for.
-    pub aud: Text,
+    pub aud: Items<Text>,
     /// The URIs of the event types that were asked for; none given asks for all.
     pub requested: Option<Items<Text>>,
     /// How its tokens reach the receiver.

@@ -21,24 +21,15 @@ use crate::{
     Answer, Client, Delivery, Fact, PrepareFault, Prepared, Rules, Step, StreamConf, Want,
 };
 use sig_json::limits::{LAST_NUMBER, STREAMS_PER_CLIENT};
-use sig_json::{Items, Memory, Text, copy_items};
+use sig_json::{Items, Memory, Text, copy_items, copy_optional};
 use std::alloc::Global;
 
-fn copy_texts(alloc: Global, texts: &Option<Items<Text>>) -> Result<Option<Items<Text>>, Memory>
+fn copy_requested(alloc: Global, texts: &Option<Items<Text>>) -> Result<Option<Items<Text>>, Memory>
     ensures { IfOk result (λ c. c ≡ texts.now) }
 {
     match texts {
         None => Ok(None),
         Some(items) => Ok(Some(copy_items(alloc, items)?)),
-    }
-}
-
-fn copy_text(alloc: Global, text: &Option<Text>) -> Result<Option<Text>, Memory>
-    ensures { IfOk result (λ c. c ≡ text.now) }
-{
-    match text {
-        None => Ok(None),
-        Some(text) => Ok(Some(text.copy(alloc)?)),
     }
 }
 
@@ -55,12 +46,12 @@ fn conf_of(
     Ok(StreamConf {
         stream: stream_name(alloc, client.name.as_str(), number)?,
         iss: rules.issuer.copy(alloc)?,
-        aud: client.aud.copy(alloc)?,
-        requested: copy_texts(alloc, &want.requested)?,
+        aud: copy_items(alloc, &client.aud)?,
+        requested: copy_requested(alloc, &want.requested)?,
         delivery: want.delivery.unwrap_or(Delivery::Poll),
         interval: rules.interval,
         defaults: rules.defaults,
-        description: copy_text(alloc, &want.description)?,
+        description: copy_optional(alloc, &want.description)?,
     })
 }
 

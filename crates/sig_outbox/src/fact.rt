@@ -1,5 +1,7 @@
 use crate::{Defaults, Delivery};
+use sig_event::Event;
 use sig_json::{Items, Text};
+use sig_subject::Subject;
 
 /// What happened at a transmitter: an item of its history.
 #[derive(Debug, PartialEq, Drop)]
@@ -11,7 +13,7 @@ pub enum Fact {
         /// Who makes its tokens.
         iss: Text,
         /// Whom its tokens are for.
-        aud: Text,
+        aud: Items<Text>,
         /// The URIs of the event types that were asked for; none given asks for all.
         requested: Option<Items<Text>>,
         /// How its tokens reach the receiver.
@@ -29,8 +31,10 @@ pub enum Fact {
     Published {
         /// The publication's own name.
         id: Text,
-        /// The opaque identifier of the subject whose session is revoked.
-        subject: Text,
+        /// Whom it is about.
+        subject: Subject,
+        /// What happened.
+        event: Event,
         /// When, in seconds since 1970, at most 2^62.
         time: u64,
     },

@@ -6,8 +6,9 @@
 //! them. `specs/Table` says how a call is answered and which fact it makes. `Outbox::prepare` answers by that table and
 //! leaves the state, `Outbox::commit` takes the fact in without memory.
 //!
-//! So far a call makes a stream, publishes, polls, or settles one token; every token has one session-revoked event on
-//! an opaque subject, every stream is enabled and is polled, and a client has one audience.
+//! A publication says news: a subject (RFC 9493) and an event. Each token that it makes tells that one event about that
+//! subject, for the audience of its client, which is one text or a list. So far a call makes a stream, publishes, polls,
+//! or settles one token; every stream is enabled and is polled.
 //! Left out: disks, networks and time, which the layers above bring.
 #![tactic(auto)]
 

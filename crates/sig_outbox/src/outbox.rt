@@ -15,7 +15,9 @@ use crate::{
     Call, Fact, Issued, Outcome, PollAsk, PrepareFault, Prepared, Rules, SettledItem, Step,
     StreamConf, Want,
 };
+use sig_event::Event;
 use sig_json::{Items, Text};
+use sig_subject::Subject;
 use std::alloc::Global;
 use std::marker::Model;
 
@@ -52,7 +54,7 @@ impl Model for Outbox {
 }
 
 impl Outbox {
-    ghost use Rattle.sig_outbox.specs.History.{client_in, issued_of, made_by};
+    ghost use Rattle.sig_outbox.specs.History.{client_in, issued_of, made_by, news};
     ghost use Rattle.sig_outbox.specs.Kept.{HasRoom, HaveRoom};
     ghost use Rattle.sig_outbox.specs.Owed.{empty_sum, sum_of, owed_count};
     ghost use Rattle.sig_outbox.specs.Sound.{Fits, IsProperRules, is_next, may_be_made};
@@ -92,7 +94,9 @@ impl Outbox {
                 stream,
                 ask,
             } => self.prepare_poll(client, stream, ask),
-            Call::Publish { id, subject } => self.prepare_publication(id, subject, now),
+            Call::Publish { id, subject, event } => {
+                self.prepare_publication(id, subject, event, now)
+            }
             Call::Settle {
                 stream,
                 number,
@@ -134,9 +138,14 @@ impl Outbox {
                     self.take_stream(conf, name, counted);
                 }
             }
-            Fact::Published { id, subject, time } => {
+            Fact::Published {
+                id,
+                subject,
+                event,
+                time,
+            } => {
                 if let Carried::Issued { tokens } = carried {
-                    self.take_publication(id, subject, time, tokens);
+                    self.take_publication(id, subject, event, time, tokens);
                 }
             }
             Fact::Settled { stream, items } => self.take_settlement(stream, items),
@@ -188,16 +197,23 @@ impl Outbox {
         count_one(&mut self.created, counted);
     }
 
-    fn take_publication(&mut self, id: Text, subject: Text, time: u64, tokens: Items<Issued>)
-        requires issued { tokens ≡ map issued_of (made_by self.old.sum.parts (Published id subject time)) }
-        requires may { may_be_made (made_by self.old.sum.parts (Published id subject time)) ≡ true }
+    fn take_publication(
+        &mut self,
+        id: Text,
+        subject: Subject,
+        event: Event,
+        time: u64,
+        tokens: Items<Issued>,
+    )
+        requires issued { tokens ≡ map issued_of (made_by self.old.sum.parts (Published id subject event time)) }
+        requires may { may_be_made (made_by self.old.sum.parts (Published id subject event time)) ≡ true }
         requires published { 0 < self.old.room.published }
-        requires tokens { HaveRoom subject self.old.sum.parts.streams self.old.room.tokens }
-        ensures { self.new.sum ≡ sum_of self.old.sum (Published id subject time ∷ []) }
+        requires tokens { HaveRoom (news subject event) self.old.sum.parts.streams self.old.room.tokens }
+        ensures { self.new.sum ≡ sum_of self.old.sum (Published id subject event time ∷ []) }
     {
         let place = self.published.len();
-        charge_all(self.accounts.as_mut_slice(), &subject, time, place);
-        let publication = Publication::of(id, subject, tokens);
+        charge_all(self.accounts.as_mut_slice(), &subject, &event, time, place);
+        let publication = Publication::of(id, subject, event, tokens);
         let _ = self.published.push(publication);
     }
 
@@ -232,12 +248,13 @@ impl Outbox {
     fn prepare_publication(
         &mut self,
         id: &Text,
-        subject: &Text,
+        subject: &Subject,
+        event: &Event,
         now: u64,
     ) -> Result<Step, PrepareFault>
         ensures state { self.new.sum ≡ self.old.sum }
         ensures answers { Answers PrepareFault.Memory (result_map told result)
-            (publication_told self.old.sum.parts id.now subject.now now (publication_of id.now self.old.sum.parts.published)) }
+            (publication_told self.old.sum.parts id.now (news subject.now event.now) now (publication_of id.now self.old.sum.parts.published)) }
         ensures ready { IfOk result (λ step. IsReady self.new step.change) }
     {
         prepare_publication(
@@ -247,6 +264,7 @@ impl Outbox {
             &mut self.published,
             id,
             subject,
+            event,
             now,
         )
     }

@@ -10,7 +10,7 @@ pub struct Client {
     /// The bearer token that it shows (RFC 6750, section 2.1).
     pub bearer: Text,
     /// Whom its tokens are for.
-    pub aud: Text,
+    pub aud: Items<Text>,
 }
 
 /// The settings of a transmitter.

@@ -1,11 +1,11 @@
 ghost use Rattle.std.specs.Prelude.{◌≡◌, IfOk};
 
+use sig_event::Claims;
 use sig_json::{Copied, Memory, Text};
-use sig_set::Claims;
 use std::alloc::Global;
 
 /// A token that a stream owes.
-#[derive(Debug, PartialEq, Eq, Drop)]
+#[derive(Debug, PartialEq, Drop)]
 pub struct Token {
     /// The name of its stream.
     pub stream: Text,

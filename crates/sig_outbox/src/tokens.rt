@@ -1,7 +1,7 @@
 //! Tokens with what they say.
 
-ghost use Rattle.std.specs.Prelude.{◌≡◌, ◌<◌, IfOk, length, map};
-ghost use Rattle.sig_outbox.specs.Balance.{made_of, subject_at};
+ghost use Rattle.std.specs.Prelude.{◌≡◌, ◌<◌, ◌∷◌, [], IfOk, length, map};
+ghost use Rattle.sig_outbox.specs.Balance.{made_of};
 ghost use Rattle.sig_outbox.specs.History as history;
 ghost use Rattle.sig_outbox.specs.Table as table;
 
@@ -10,8 +10,9 @@ use crate::debt::Debt;
 use crate::names::jti_text;
 use crate::publication::Publication;
 use crate::{StreamConf, Token};
-use sig_json::{Memory, Text};
-use sig_set::Claims;
+use sig_event::{Claims, Event};
+use sig_json::{Items, Memory, copy_items};
+use sig_subject::Subject;
 use std::alloc::Global;
 
 /// What a token says (RFC 8417, section 2.2).
@@ -21,17 +22,28 @@ pub(crate) fn claims_for(
     conf: &StreamConf,
     number: u64,
     time: u64,
-    subject: &Text,
+    subject: &Subject,
+    event: &Event,
 ) -> Result<Claims, Memory>
-    ensures { IfOk result (λ c. c ≡ history.claims_for store_id conf.now number time subject.now) }
+    ensures { IfOk result (λ c. c ≡ history.claims_for store_id conf.now number time (history.news subject.now event.now)) }
 {
     Ok(Claims {
         iss: conf.iss.copy(alloc)?,
         jti: jti_text(alloc, store_id, conf.stream.as_str(), number)?,
         iat: time,
-        aud: conf.aud.copy(alloc)?,
+        aud: copy_items(alloc, &conf.aud)?,
         subject: subject.copy(alloc)?,
+        events: one_event(alloc, event)?,
     })
+}
+
+// A list of one event.
+fn one_event(alloc: Global, event: &Event) -> Result<Items<Event>, Memory>
+    ensures { IfOk result (λ events. events ≡ event.now ∷ []) }
+{
+    let mut events = Vec::new(alloc);
+    events.push(event.copy(alloc)?)?;
+    Ok(Items::of(events))
 }
 
 /// A token that a stream owes.
@@ -54,6 +66,7 @@ pub(crate) fn owed_token(
         debt.number,
         debt.time,
         publication.subject(),
+        publication.event(),
     )?;
     Ok(Token {
         stream: conf.stream.copy(alloc)?,

@@ -1,10 +1,10 @@
+use Rattle.sig_outbox.specs.History.{news}
 use Rattle.std.proofs.Common.{◌≡◌, ℕ, ◌≤◌, ◌++◌, take, drop, map, get_or}
-use Rattle.sig_set.specs.FirstForm.{session_revoked}
 use Rattle.sig_outbox.specs.Balance.{Balance, owing_in, charged}
 use Rattle.sig_outbox.proofs.accounts.charge_all.Given as goal
 
 abbrev pub invariant-loop-account : goal.invariant-loop-account
 invariant-loop-account l = record {
-  so_far : map owing_in l.accounts ≡ map (charged l.subject session_revoked l.time l.place) (take l.account-index (map owing_in l.fn.accounts)) ++ drop l.account-index (map owing_in l.fn.accounts);
+  so_far : map owing_in l.accounts ≡ map (charged (news l.subject l.event) l.time l.place) (take l.account-index (map owing_in l.fn.accounts)) ++ drop l.account-index (map owing_in l.fn.accounts);
   rest : (k : ℕ) (d : Balance) → l.account-index ≤ k → get_or l.accounts k d ≡ get_or l.fn.accounts k d;
 }

@@ -1,3 +1,4 @@
+use Rattle.sig_outbox.specs.History.{news}
 use Rattle.std.proofs.Common.{◌∙◌, subst, sym, ◌≢◌, arith, get_or, get_or-set_other, get_or-set_same, below_more}
 use Rattle.std.proofs.Math.Seq.{map-set_same}
 use Rattle.std.proofs.Math.ListN.{set}
@@ -10,10 +11,10 @@ loop-account-preserved c = record {
   same = map-set_same owing_in c.loop-account.accounts c.loop-account.account-index c.reserve_for.new.self c.account-item.result c.reserve_for.ensures.same
       ∙ c.loop-account.invariant.same;
   rooms = λ k d h. below_more
-      (λ k. HasRoomFor c.args.subject.now (get_or (set c.loop-account.accounts c.loop-account.account-index c.reserve_for.new.self) k d)) _
+      (λ k. HasRoomFor (news c.args.subject.now c.args.event.now) (get_or (set c.loop-account.accounts c.loop-account.account-index c.reserve_for.new.self) k d)) _
       (λ k h. let ne : k ≢ c.loop-account.account-index = omega arith in
-      subst (HasRoomFor c.args.subject.now) (sym (get_or-set_other _ _ _ _ d ne)) (c.loop-account.invariant.rooms k d h))
-      (subst (HasRoomFor c.args.subject.now) (sym (get_or-set_same c.loop-account.accounts c.loop-account.account-index c.reserve_for.new.self d (omega arith))) (c.in_ok-reserve_for.ensures.ok)) k h;
+      subst (HasRoomFor (news c.args.subject.now c.args.event.now)) (sym (get_or-set_other _ _ _ _ d ne)) (c.loop-account.invariant.rooms k d h))
+      (subst (HasRoomFor (news c.args.subject.now c.args.event.now)) (sym (get_or-set_same c.loop-account.accounts c.loop-account.account-index c.reserve_for.new.self d (omega arith))) (c.in_ok-reserve_for.ensures.ok)) k h;
 }
 
 pub returns-in_err-reserve_for-clause-same : goal.returns-in_err-reserve_for-clause-same

@@ -1,3 +1,4 @@
+use Rattle.sig_outbox.specs.History.{news}
 use Rattle.std.proofs.Common.{◌∙◌, ap, sym, ℕ, [], ◌∷◌, max, map, take, arith}
 use Rattle.sig_outbox.specs.Balance.{Balance, owing_in, tokens_on}
 use Rattle.sig_outbox.specs.Table.{largest}
@@ -8,6 +9,6 @@ pub loop-account-preserved : goal.loop-account-preserved
 loop-account-preserved c =
     c.larger-largest.ensures
     ∙ ap (λ (n : ℕ). max n c.in_ok-size.size) c.loop-account.invariant
-    ∙ ap (max (largest (tokens_on c.args.store_id c.args.subject.now c.args.now (map owing_in (take c.loop-account.account-index c.args.accounts.now))))) c.in_ok-size.ensures
-    ∙ ap (λ (b : Balance). max (largest (tokens_on c.args.store_id c.args.subject.now c.args.now (map owing_in (take c.loop-account.account-index c.args.accounts.now)))) (largest (tokens_on c.args.store_id c.args.subject.now c.args.now (b.owing ∷ [])))) c.account-item.is
-    ∙ sym (largest_more c.args.store_id c.args.subject.now c.args.now c.args.accounts.now c.loop-account.account-index c.account-item.result (omega arith))
+    ∙ ap (max (largest (tokens_on c.args.store_id (news c.args.subject.now c.args.event.now) c.args.now (map owing_in (take c.loop-account.account-index c.args.accounts.now))))) c.in_ok-size.ensures
+    ∙ ap (λ (b : Balance). max (largest (tokens_on c.args.store_id (news c.args.subject.now c.args.event.now) c.args.now (map owing_in (take c.loop-account.account-index c.args.accounts.now)))) (largest (tokens_on c.args.store_id (news c.args.subject.now c.args.event.now) c.args.now (b.owing ∷ [])))) c.account-item.is
+    ∙ sym (largest_more c.args.store_id (news c.args.subject.now c.args.event.now) c.args.now c.args.accounts.now c.loop-account.account-index c.account-item.result (omega arith))

@@ -1,7 +1,7 @@
 use Rattle.std.proofs.Common.{sym, subst, ◌<◌, ◌-◌, List, map, length, IsSome, arith, All}
 use Rattle.std.specs.Prelude.{vec_len, vec_capacity}
 use Rattle.sig_outbox.specs.declared.step.Step.{Step}
-use Rattle.sig_outbox.specs.History.{Count, Publication}
+use Rattle.sig_outbox.specs.History.{Count, Publication, news}
 use Rattle.sig_outbox.specs.Balance.{Owing, Balance, owing_in, room_in, stream_in, sum_with}
 use Rattle.sig_outbox.specs.Kept.{Held, Rooms, HaveRoom, HasRoomFor}
 use Rattle.sig_outbox.specs.Steps.{IsReady}
@@ -24,17 +24,17 @@ returns-clause-ready c =
     let old : List Owing = map owing_in c.self.inside.accounts.items in
     let held : List Owing → List Publication → Held = λ os ps. record { sum = sum_with c.self.inside.store_id os c.self.inside.created.items ps; room = room } in
     both
-    (λ (step : Step). (created : List Count) (room : Rooms) → 0 < room.published → HaveRoom c.args.subject.now (map stream_in old) room.tokens
+    (λ (step : Step). (created : List Count) (room : Rooms) → 0 < room.published → HaveRoom (news c.args.subject.now c.args.event.now) (map stream_in old) room.tokens
     → IsReady (record { sum = sum_with c.self.inside.store_id old created c.self.inside.published.items; room = room }) step.change)
-    (λ (step : Step). IsSome step.change → (vec_len c.prepare_publication.new.published < vec_capacity c.prepare_publication.new.published) × All (HasRoomFor c.args.subject.now) bs)
+    (λ (step : Step). IsSome step.change → (vec_len c.prepare_publication.new.published < vec_capacity c.prepare_publication.new.published) × All (HasRoomFor (news c.args.subject.now c.args.event.now)) bs)
     (λ (step : Step). IsReady (held (map owing_in bs) c.prepare_publication.new.published.items) step.change)
     (λ step ready some.
     subst (λ (os : List Owing). IsReady (held os c.prepare_publication.new.published.items) step.change) (sym c.prepare_publication.ensures.same)
     (subst (λ (ps : List Publication). IsReady (held old ps) step.change) (sym c.prepare_publication.ensures.published)
-    (ready_within (held old c.self.inside.published.items) step.change ((0 < room.published) × HaveRoom c.args.subject.now (map stream_in old) room.tokens)
+    (ready_within (held old c.self.inside.published.items) step.change ((0 < room.published) × HaveRoom (news c.args.subject.now c.args.event.now) (map stream_in old) room.tokens)
     (λ k. ready c.self.inside.created.items room k.0 k.1)
-    (λ is. let k : (vec_len c.prepare_publication.new.published < vec_capacity c.prepare_publication.new.published) × All (HasRoomFor c.args.subject.now) bs = some is in (
+    (λ is. let k : (vec_len c.prepare_publication.new.published < vec_capacity c.prepare_publication.new.published) × All (HasRoomFor (news c.args.subject.now c.args.event.now)) bs = some is in (
       omega (arith, k.0),
-      subst (λ (os : List Owing). HaveRoom c.args.subject.now (map stream_in os) room.tokens) c.prepare_publication.ensures.same (room_holds c.args.subject.now bs k.1),
+      subst (λ (os : List Owing). HaveRoom (news c.args.subject.now c.args.event.now) (map stream_in os) room.tokens) c.prepare_publication.ensures.same (room_holds (news c.args.subject.now c.args.event.now) bs k.1),
     )))))
     c.prepare_publication.result c.prepare_publication.ensures.ready c.prepare_publication.ensures.room
