@@ -3,8 +3,9 @@
 # beside it, which was worked out by hand.
 set -eu
 cd "$(dirname "$0")/.."
-python3 tools/sign_tokens.py examples | cmp - examples/tokens.txt
-python3 tools/sign_tokens.py source | tr -d ' \n' | cmp - <(tr -d ' \n' <crates/sig_set/src/tests/tokens.rt)
+python3 -B tools/sign_fold.py examples | cmp - examples/tokens.txt
+python3 -B tools/sign_fold.py source | tr -d ' \n' | cmp - <(tr -d ' \n' <crates/signals/src/tests/tokens.rt)
+python3 -B tools/sign_tokens.py source | tr -d ' \n' | cmp - <(tr -d ' \n' <crates/sig_set/src/tests/tokens.rt)
 
 folder=$(mktemp -d)
 trap 'rm -rf "$folder"' EXIT

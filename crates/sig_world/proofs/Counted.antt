@@ -1,14 +1,16 @@
 -- What a call counts as acknowledged stands in the receiver's journal.
+use Rattle.std.specs.Option.{option_to_list}
 use Rattle.std.proofs.Common.{option_to_list, ◌≡◌, ◌∙◌, ap, sym, subst, ℕ, List, [], ◌∷◌, map, Bool, true, false, ◌&&◌, Option, Some, None, bytes_eq, if◌then◌else◌, refl, inl, inr}
 use Rattle.std.specs.Prelude.{◌⊎◌, All, Contains, is_none, nat_le, ◌==◌}
 use Rattle.std.specs.List.{list_any, list_all, cons_option}
 use Rattle.std.proofs.lemmas.Bool.{and_parts, eqb-true, or_cases}
 use Rattle.std.proofs.lemmas.List.Elements.{All-contains, All-head, All-map, All-tail, All-weaker}
-use Rattle.sig_set.specs.declared.claims.Claims.{Claims}
-use Rattle.sig_set.specs.declared.heard.Heard.{Heard}
-use Rattle.sig_set.specs.declared.heard.Heard.TheVariants.{Accepted, Seen, NotTaken}
-use Rattle.sig_set.specs.Journal.{pair_of, pairs_of}
-use Rattle.sig_set.specs.Pair.{Pair, has_pair}
+use Rattle.sig_event.specs.declared.claims.Claims.{Claims}
+use Rattle.sig_rxnode.specs.declared.heard.Heard.{Heard}
+use Rattle.sig_rxnode.specs.declared.heard.Heard.TheVariants.{Accepted, Seen, NotTaken}
+use Rattle.sig_rxnode.specs.Journal.{pair_of, pairs_of}
+use Rattle.sig_inbox.specs.declared.pair.Pair.{Pair}
+use Rattle.sig_inbox.specs.Pairs.{has_pair}
 use Rattle.sig_set.specs.Spelled.{code_text}
 use Rattle.sig_outbox.specs.declared.rules.Client.{Client}
 use Rattle.sig_outbox.specs.declared.rules.Rules.{Rules}
@@ -21,7 +23,7 @@ use Rattle.sig_outbox.specs.declared.want.Want.{Want}
 use Rattle.sig_outbox.specs.declared.fact.Fact.{Fact}
 use Rattle.sig_outbox.specs.declared.fact.Fact.TheVariants as fact
 use Rattle.sig_outbox.specs.declared.fact.SettledItem.{SettledItem}
-use Rattle.sig_outbox.specs.History.{Made, Parts, Publication, jti_of}
+use Rattle.sig_outbox.specs.History.{Made, Parts, Publication, jti_of, News, news}
 use Rattle.sig_outbox.specs.Owed.{Sum, owed_by}
 use Rattle.sig_outbox.specs.Table.{change_of, client_of, created_fact, has_number, has_stream, is_long, keeps, made_change, next_conf, outcome_item, polled_change, publication_of, published_change, publishes, refused_as, refused_item, settled_fact, settled_items, settling, streams_of, token_of}
 use Rattle.sig_outbox.proofs.KeptLemmas.{IsKept, IsOurs, IsOurToken}
@@ -210,13 +212,13 @@ create_counted P rules parts want now (Some c) f t is counts =
           let no : false ≡ true = subst (λ g. acknowledges g t ≡ true) same counts in cc no
     ] is
 
-publish_counted : (P : Type 0) (id subject : List ℕ) (now : ℕ) (tokens : List Made) (o : Option Publication) (f : Fact) (t : Made)
-    → published_change (fact.Published id subject now) tokens o ≡ Some f → acknowledges f t ≡ true → P
-publish_counted P id subject now tokens (Some p) f t is counts = cc is
-publish_counted P id subject now tokens None f t is counts =
-    elim (is_long tokens) as (λ b. (if b then None else Some (fact.Published id subject now)) ≡ Some f → P) [
+publish_counted : (P : Type 0) (id : List ℕ) (said : News) (now : ℕ) (tokens : List Made) (o : Option Publication) (f : Fact) (t : Made)
+    → published_change (fact.Published id said.subject said.event now) tokens o ≡ Some f → acknowledges f t ≡ true → P
+publish_counted P id said now tokens (Some p) f t is counts = cc is
+publish_counted P id said now tokens None f t is counts =
+    elim (is_long tokens) as (λ b. (if b then None else Some (fact.Published id said.subject said.event now)) ≡ Some f → P) [
       | true ↦ λ none. cc none
-      | false ↦ λ this. let same : f ≡ fact.Published id subject now = cc in
+      | false ↦ λ this. let same : f ≡ fact.Published id said.subject said.event now = cc in
           let no : false ≡ true = subst (λ g. acknowledges g t ≡ true) same counts in cc no
     ] is
 
@@ -231,6 +233,6 @@ call_counted rules store sum tokens journal replies (Create client want) now f t
     create_counted _ rules sum.parts want now (client_of client rules.clients) f t is counts
 call_counted rules store sum tokens journal replies (Poll client stream ask) now f t kept heard may is counts =
     poll_counted rules.issuer store sum tokens journal replies client stream ask f t kept.made (kept.owed stream) heard may is counts
-call_counted rules store sum tokens journal replies (Publish id subject) now f t kept heard may is counts =
-    publish_counted _ id subject now (publishes sum.parts id subject now) (publication_of id sum.parts.published) f t is counts
+call_counted rules store sum tokens journal replies (Publish id subject event) now f t kept heard may is counts =
+    publish_counted _ id (news subject event) now (publishes sum.parts id (news subject event) now) (publication_of id sum.parts.published) f t is counts
 call_counted rules store sum tokens journal replies (Settle stream number outcome) now f t kept heard may is counts = cc may

@@ -2,10 +2,10 @@
 use Rattle.std.proofs.Common.{◌≡◌, ◌∙◌, ap, sym, ℕ, zero, suc, ◌+◌, List, [], ◌∷◌, ◌++◌, map, drop, length, None, Some, refl, arith}
 use Rattle.std.proofs.lemmas.List.{length-map}
 use Rattle.std.specs.List.{slice_get}
-use Rattle.sig_set.specs.FirstForm.{claims_of}
-use Rattle.sig_set.specs.Journal.{pair_of, distinct}
-use Rattle.sig_set.specs.Printed.{table_text}
-use Rattle.sig_set.specs.Table.{fold_rows}
+use Rattle.sig_set.specs.Judgement.{claims_of}
+use Rattle.sig_rxnode.specs.Journal.{pair_of, distinct}
+use Rattle.sig_rxnode.specs.Printed.{table_text}
+use Rattle.sig_rxnode.specs.Rows.{fold_rows}
 use Rattle.sig_outbox.specs.History.{Stream}
 use Rattle.sig_outbox.specs.Owed.{Sum}
 use Rattle.sig_world.specs.declared.replayer.Replayer.{Replayer}

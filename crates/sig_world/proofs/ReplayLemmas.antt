@@ -3,7 +3,6 @@ use Rattle.std.proofs.Common.{◌≡◌, ◌∙◌, ap, sym, ℕ, ◌+◌, List,
 use Rattle.std.specs.Prelude.{Bool, true, false, is_none, is_some, if◌then◌else◌}
 use Rattle.sig_json.specs.declared.limits.TheConstants.{LAST_NUMBER}
 use Rattle.sig_outbox.specs.declared.call.Call.{Call}
-use Rattle.sig_outbox.specs.declared.call.Call.TheVariants as call
 use Rattle.sig_outbox.specs.declared.token.Token.{Token}
 use Rattle.sig_outbox.specs.Table.{answer_of, over_top, publication_of}
 use Rattle.sig_world.specs.declared.script.ScriptLine.{ScriptLine}
@@ -12,7 +11,7 @@ use Rattle.sig_world.specs.declared.stop.Stop.{Stop}
 use Rattle.sig_world.specs.declared.stop.Stop.TheVariants.{Line, Full}
 use Rattle.sig_world.specs.Script.{script_line_of}
 use Rattle.sig_world.specs.World.{World, Reply, called, new_world, settle_call, sum_in}
-use Rattle.sig_world.specs.Replay.{Played, call_text, counted_at, create_call, played, played_answer, played_call, played_delivery, played_found, played_line, played_publication, poll_call, refused, replay_ends, script_stop, script_text, script_world}
+use Rattle.sig_world.specs.Replay.{Played, call_text, counted_at, create_call, played, played_answer, played_call, played_delivery, played_found, played_line, played_publication, poll_call, refused, replay_ends, script_stop, script_text, script_world, publish_call}
 use Rattle.sig_world.specs.ReplayLaws.{text-goes, stop-goes, world-goes, text-stops, stop-stops}
 
 none_some : (s : Stop) → None ≡ Some s → ⊥
@@ -123,9 +122,9 @@ full-call number w n c h = by_test (over_top replay_ends.rules (sum_in replay_en
 full-publication : (number : ℕ) (w : World) (n : ℕ) (id subject : List ℕ) → (played_publication number w id subject).stop ≡ Some (Full n) → n ≡ LAST_NUMBER + 1
 full-publication number w n id subject h =
     elim (is_some (publication_of id (sum_in replay_ends w).parts.published))
-    as (λ b. (let x : Played = if b then refused number w else played_call number w (call.Publish id subject) in x.stop) ≡ Some (Full n) → n ≡ LAST_NUMBER + 1) [
+    as (λ b. (let x : Played = if b then refused number w else played_call number w (publish_call id subject) in x.stop) ≡ Some (Full n) → n ≡ LAST_NUMBER + 1) [
       | true ↦ λ e. no_number number n e
-      | false ↦ λ e. full-call number w n (call.Publish id subject) e
+      | false ↦ λ e. full-call number w n (publish_call id subject) e
     ] h
 
 full-delivery : (number : ℕ) (w : World) (n : ℕ) (m : Option Token) → (played_delivery number w m).stop ≡ Some (Full n) → n ≡ LAST_NUMBER + 1

@@ -1,13 +1,14 @@
 -- What a line does to what a replay keeps.
+use Rattle.std.specs.Option.{option_to_list}
 use Rattle.std.proofs.Common.{◌≡◌, ◌∙◌, ap, sym, subst, ℕ, ◌+◌, ◌<◌, List, [], ◌∷◌, ◌++◌, length, Option, Some, None, Bool, true, false, refl, append-nil, if◌then◌else◌}
 use Rattle.std.specs.Prelude.{Result, Ok, Err, OnOk, codes}
 use Rattle.std.proofs.lemmas.Str.{is_utf8-from_IsUtf8}
 use Rattle.sig_set.proofs.ProperClaims.{ascii}
 use Rattle.std.proofs.lemmas.Bool.{lt-leb}
 use Rattle.sig_json.specs.declared.limits.TheConstants.{LAST_NUMBER, SCRIPT_LINE_BYTES}
-use Rattle.sig_set.specs.declared.heard.Heard.{Heard}
-use Rattle.sig_set.specs.Journal.{answer_to, journal_by}
-use Rattle.sig_set.specs.Receiver.{StandsFor}
+use Rattle.sig_rxnode.specs.declared.heard.Heard.{Heard}
+use Rattle.sig_rxnode.specs.Journal.{answer_to, journal_by}
+use Rattle.sig_rxnode.specs.Receiver.{StandsFor}
 use Rattle.sig_set.specs.Written.{token_text}
 use Rattle.sig_outbox.specs.declared.answer.Answer.{Answer}
 use Rattle.sig_outbox.specs.declared.call.Call.{Call}
@@ -17,7 +18,7 @@ use Rattle.sig_outbox.specs.declared.step.PrepareFault.{PrepareFault}
 use Rattle.sig_outbox.specs.declared.token.Token.{Token}
 use Rattle.sig_outbox.specs.Owed.{Sum, empty_sum, sum_of}
 use Rattle.sig_outbox.specs.Sound.{is_proper_rules}
-use Rattle.sig_outbox.specs.Table.{Told, answer_of, change_of, facts_of, over_top, prepared_of, told_by}
+use Rattle.sig_outbox.specs.Table.{Told, answer_of, change_of, over_top, prepared_of, told_by}
 use Rattle.sig_outbox.proofs.JoinLemmas.{joined}
 use Rattle.sig_world.specs.declared.replayer.Replayer.{Replayer}
 use Rattle.sig_world.specs.declared.stop.Stop.TheVariants.{Line, Full}
@@ -57,7 +58,7 @@ found rules sum c now answer change h = by_test (over_top rules sum c now) refl 
         record { within = e; answered = ap (λ (x : Told). x.answer) t; changed = ap (λ (x : Told). x.change) t }
 
 -- with one more fact, or none
-sum-on : (base : Sum) (fs : List Fact) (o : Option Fact) → sum_after (sum_of base fs) o ≡ sum_of base (fs ++ facts_of o)
+sum-on : (base : Sum) (fs : List Fact) (o : Option Fact) → sum_after (sum_of base fs) o ≡ sum_of base (fs ++ option_to_list o)
 sum-on base fs None = ap (sum_of base) (sym (append-nil fs))
 sum-on base fs (Some f) = sym (joined base fs (f ∷ []))
 
@@ -74,7 +75,7 @@ call-goes r r' w c number before answer change text text' at prepared count adde
     let answered : answer_of replay_rules (sum_in replay_ends w) c w.time ≡ answer = ap (answer_of replay_rules (sum_in replay_ends w) c) at.time ∙ f.answered in
     let changed : change_of replay_rules (sum_in replay_ends w) c w.time ≡ change = ap (change_of replay_rules (sum_in replay_ends w) c) at.time ∙ f.changed in
     let on : World = record {
-      facts = w.facts ++ facts_of (change_of replay_rules (sum_in replay_ends w) c w.time);
+      facts = w.facts ++ option_to_list (change_of replay_rules (sum_in replay_ends w) c w.time);
       journal = w.journal;
       messages = w.messages ++ handed_by (answer_of replay_rules (sum_in replay_ends w) c w.time);
       replies = w.replies;
@@ -99,7 +100,7 @@ call-goes r r' w c number before answer change text text' at prepared count adde
         rules = rules ∙ at.rules;
         trust = trust ∙ at.trust;
         sum = sum ∙ ap (λ s. sum_after s change) at.sum ∙ sum-on (empty_sum replay_ends.store_id) w.facts change
-            ∙ ap (λ o. sum_of (empty_sum replay_ends.store_id) (w.facts ++ facts_of o)) (sym changed);
+            ∙ ap (λ o. sum_of (empty_sum replay_ends.store_id) (w.facts ++ option_to_list o)) (sym changed);
         received = subst (λ x. StandsFor x w.journal) (sym receiver) at.received;
         messages = messages ∙ ap (λ ms. ms ++ handed_by answer) at.messages ∙ ap (λ a. w.messages ++ handed_by a) (sym answered);
         replies = replies ∙ at.replies;

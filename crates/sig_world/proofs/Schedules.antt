@@ -4,22 +4,19 @@ use Rattle.std.specs.Prelude.{All, Contains, IfSome, IsUtf8, nat_le}
 use Rattle.std.proofs.lemmas.Bool.{leb-true}
 use Rattle.std.proofs.lemmas.List.Elements.{All-contains, All-contains_itself, All-head, All-map, All-nil, All-tail, All-weaker}
 use Rattle.sig_json.specs.declared.limits.TheConstants.{LAST_NUMBER}
-use Rattle.sig_set.specs.FirstForm.{claims_of}
-use Rattle.sig_set.specs.Journal.{pairs_of}
-use Rattle.sig_set.specs.Judgement.{checks}
-use Rattle.sig_set.specs.Pair.{has_pair}
+use Rattle.sig_set.specs.Judgement.{checks, claims_of}
+use Rattle.sig_rxnode.specs.Journal.{pairs_of}
+use Rattle.sig_inbox.specs.Pairs.{has_pair}
 use Rattle.sig_set.specs.Written.{token_text}
 use Rattle.sig_set.proofs.JudgedValid.{written_claims}
-use Rattle.sig_set.proofs.ProperClaims.{proper_in_utf8}
 use Rattle.sig_json.specs.Checks.{first_failing}
 use Rattle.sig_outbox.specs.declared.token.Token.{Token}
 use Rattle.sig_outbox.specs.declared.call.Call.{Call}
-use Rattle.sig_outbox.specs.declared.call.Call.TheVariants.{Create, Poll, Publish, Settle}
 use Rattle.sig_outbox.specs.History.{Made}
-use Rattle.sig_outbox.specs.Sound.{is_proper_call}
+use Rattle.sig_outbox.specs.Sound.{IsProperCall}
 use Rattle.sig_outbox.specs.Table.{token_of}
 use Rattle.sig_outbox.proofs.KeptLemmas.{IsOurs, IsOurToken}
-use Rattle.sig_world.specs.Law.{AreProper, HoldsOnEverySchedule, IsLawful, is_acknowledged, is_journalled, tokens_in}
+use Rattle.sig_world.specs.Law.{AreProper, HoldsOnEverySchedule, IsLawful, IsProperEvent, is_acknowledged, is_journalled, tokens_in}
 use Rattle.sig_world.specs.World.{Ends, World, Reply, Event, Called, Delivered, Answered, Elapsed, at, answered, called, delivered, happens, is_taken, may_come, new_world, run, settle_call, sum_in}
 use Rattle.sig_world.proofs.Calls.{Holds, called_holds}
 use Rattle.sig_world.proofs.Counted.{call_counted, message_ours, pair_ours, settle_counted}
@@ -34,16 +31,10 @@ at_place P (suc place) (y ∷ ys) x all is = at_place P place ys x (All-tail P y
 
 -- ---- calls
 
-may_be_proper : (replies : List Reply) (call : Call) → may_come replies call ≡ true → is_proper_call call ≡ true
-may_be_proper replies (Create client want) h = refl
-may_be_proper replies (Poll client stream ask) h = refl
-may_be_proper replies (Publish id subject) h = h
-may_be_proper replies (Settle stream number outcome) h = refl
-
-call_holds : (ends : Ends) (world : World) (call : Call) → AreProper ends → Holds ends world → may_come world.replies call ≡ true
+call_holds : (ends : Ends) (world : World) (call : Call) → AreProper ends → Holds ends world → IsProperCall call → may_come world.replies call ≡ true
     → Holds ends (called ends call world)
-call_holds ends world call proper holds may =
-    called_holds ends world call proper holds (may_be_proper world.replies call may)
+call_holds ends world call proper holds fair may =
+    called_holds ends world call proper holds fair
     (λ f is t counts. call_counted ends.rules ends.store_id (sum_in ends world) (tokens_in ends world) world.journal world.replies call world.time f t
     holds.kept holds.held.heard may is counts)
 
@@ -59,7 +50,7 @@ message_text : (ends : Ends) (world : World) (m : Token) → AreProper ends → 
 message_text ends world m proper holds there =
     let ours : IsOurs ends.rules.issuer ends.store_id m.stream m.number m.claims =
     message_ours ends.rules.issuer ends.store_id (tokens_in ends world) m holds.kept.made there in
-    written_claims m.claims ends.rules.key (proper_in_utf8 m.claims ours.texts) (name_text ends.rules.key.kid proper.kid)
+    written_claims m.claims ends.rules.key ours.proper (name_text ends.rules.key.kid proper.kid)
 
 -- a message's claims are those of a token
 claims_there : (tokens : List Made) (m : Token) → Contains (map token_of tokens) m → Contains (map claims_made tokens) m.claims
@@ -92,7 +83,7 @@ answer_holds : (ends : Ends) (world : World) (o : Option Reply) → AreProper en
     → ((r : Reply) → o ≡ Some r → IsHeard (tokens_in ends world) world.journal r) → Holds ends (answered ends world o)
 answer_holds ends world None proper holds heard = holds
 answer_holds ends world (Some r) proper holds heard =
-    called_holds ends world (settle_call r) proper holds refl
+    called_holds ends world (settle_call r) proper holds tt
     (λ f is t counts. settle_counted ends.rules ends.rules.issuer ends.store_id (sum_in ends world) (tokens_in ends world) world.journal r world.time f t
     holds.kept.made (heard r refl) is counts)
 
@@ -102,16 +93,16 @@ chosen : (P : World → Type 0) (b : Bool) (left right : World) → (b ≡ true 
 chosen P true left right first second = first refl
 chosen P false left right first second = second
 
-event_holds : (ends : Ends) (world : World) (e : Event) → AreProper ends → Holds ends world → Holds ends (happens ends world e)
-event_holds ends world (Called call) proper holds =
-    chosen (Holds ends) (may_come world.replies call) _ world (λ may. call_holds ends world call proper holds may) holds
-event_holds ends world (Delivered place) proper holds =
+event_holds : (ends : Ends) (world : World) (e : Event) → AreProper ends → IsProperEvent e → Holds ends world → Holds ends (happens ends world e)
+event_holds ends world (Called call) proper fair holds =
+    chosen (Holds ends) (may_come world.replies call) _ world (λ may. call_holds ends world call proper holds fair may) holds
+event_holds ends world (Delivered place) proper fair holds =
     delivery_holds ends world (at place world.messages) proper holds
     (λ m is. at_place (Contains (map token_of (tokens_in ends world))) place world.messages m holds.held.handed is)
-event_holds ends world (Answered place) proper holds =
+event_holds ends world (Answered place) proper fair holds =
     answer_holds ends world (at place world.replies) proper holds
     (λ r is. at_place (IsHeard (tokens_in ends world) world.journal) place world.replies r holds.held.heard is)
-event_holds ends world (Elapsed time) proper holds =
+event_holds ends world (Elapsed time) proper fair holds =
     chosen (Holds ends) (nat_le time LAST_NUMBER) _ world (λ early. record {
       kept = holds.kept;
       sound = holds.sound;
@@ -119,9 +110,12 @@ event_holds ends world (Elapsed time) proper holds =
       early = leb-true time LAST_NUMBER early;
     }) holds
 
-run_holds : (ends : Ends) (world : World) (schedule : List Event) → AreProper ends → Holds ends world → Holds ends (run ends world schedule)
-run_holds ends world [] proper holds = holds
-run_holds ends world (e ∷ es) proper holds = run_holds ends (happens ends world e) es proper (event_holds ends world e proper holds)
+run_holds : (ends : Ends) (world : World) (schedule : List Event) → AreProper ends → All IsProperEvent schedule → Holds ends world
+    → Holds ends (run ends world schedule)
+run_holds ends world [] proper fair holds = holds
+run_holds ends world (e ∷ es) proper fair holds =
+    run_holds ends (happens ends world e) es proper (All-tail IsProperEvent e es fair)
+    (event_holds ends world e proper (All-head IsProperEvent e es fair) holds)
 
 -- ---- before anything happens
 
@@ -169,4 +163,4 @@ lawful ends world holds = record {
 }
 
 pub every_schedule : HoldsOnEverySchedule
-every_schedule ends proper schedule = lawful ends (run ends new_world schedule) (run_holds ends new_world schedule proper (new_holds ends))
+every_schedule ends proper schedule fair = lawful ends (run ends new_world schedule) (run_holds ends new_world schedule proper fair (new_holds ends))

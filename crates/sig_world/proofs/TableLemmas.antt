@@ -5,8 +5,8 @@ use Rattle.std.specs.Io.KnownBytes.{Appends}
 use Rattle.std.proofs.KnownBytes.{Appends-trans}
 use Rattle.sig_outside.specs.Causes.{AppendsPrefix, Rose}
 use Rattle.sig_outside.proofs.CauseLemmas.{later_rose, appends_then_prefix, prefix_longer}
-use Rattle.sig_set.specs.Printed.{row_text, rows_text}
-use Rattle.sig_set.specs.Table.{Row}
+use Rattle.sig_rxnode.specs.Printed.{row_text, rows_text}
+use Rattle.sig_sessions.specs.declared.row.Row.{Row}
 use Rattle.sig_world.specs.declared.replay_end.ReplayEnd.{ReplayEnd}
 use Rattle.sig_world.specs.declared.replay_end.ReplayEnd.TheVariants.{Done, Line, Input, Output, Full, Memory}
 use Rattle.sig_world.specs.Telling.{TableEnd, WhyPut}

@@ -1,18 +1,18 @@
 -- What holds over every schedule.
 use Rattle.std.specs.Prelude.{◌≡◌, ℕ, List, [], ◌++◌, ◌==◌, Bool, true, false, ◌&&◌, Some, is_none, map, bytes_eq, All, Contains, IsUtf8}
 use Rattle.std.specs.List.{list_any}
-use Rattle.sig_set.specs.declared.claims.Claims.{Claims}
-use Rattle.sig_set.specs.Journal.{pair_of, pairs_of, distinct}
-use Rattle.sig_set.specs.Pair.{has_pair}
-use Rattle.sig_set.specs.FirstForm.{claims_of}
+use Rattle.sig_event.specs.declared.claims.Claims.{Claims}
+use Rattle.sig_rxnode.specs.Journal.{pair_of, pairs_of, distinct}
+use Rattle.sig_inbox.specs.Pairs.{has_pair}
+use Rattle.sig_set.specs.Judgement.{claims_of}
 use Rattle.sig_outbox.specs.declared.fact.Fact.{Fact}
 use Rattle.sig_outbox.specs.declared.fact.Fact.TheVariants.{Created, Published, Settled}
 use Rattle.sig_outbox.specs.declared.fact.SettledItem.{SettledItem}
 use Rattle.sig_outbox.specs.History.{Made, tokens_of}
 use Rattle.sig_outbox.specs.Owed.{empty_sum}
 use Rattle.sig_outbox.specs.Table.{token_of}
-use Rattle.sig_outbox.specs.Sound.{IsProperRules, is_sound}
-use Rattle.sig_world.specs.World.{Ends, World, Reply, Event, new_world, is_taken, run}
+use Rattle.sig_outbox.specs.Sound.{IsProperCall, IsProperRules, is_sound}
+use Rattle.sig_world.specs.World.{Ends, World, Reply, Event, Called, Delivered, Answered, Elapsed, new_world, is_taken, run}
 
 -- the tokens that the transmitter made
 abbrev pub tokens_in : Ends → World → List Made
@@ -25,7 +25,7 @@ is_journalled world claims = has_pair (pair_of claims) (pairs_of world.journal)
 -- a fact counts a token as acknowledged: it settles its number on its stream without a code
 abbrev pub acknowledges : Fact → Made → Bool
 acknowledges (Created stream iss aud requested delivery interval defaults description time) t = false
-acknowledges (Published id subject time) t = false
+acknowledges (Published id subject event time) t = false
 acknowledges (Settled stream items) t =
     bytes_eq stream t.stream && list_any (λ (i : SettledItem). (i.number == t.number) && is_none i.code) items
 
@@ -55,9 +55,17 @@ pub record IsLawful (ends : Ends) (world : World) : Type 0 where
   -- each fact fits what came before it
   pub sound : is_sound (empty_sum ends.store_id) world.facts ≡ true
 
--- the law: it holds after every schedule
+-- an event that requests and scripts make: a call in it is proper
+abbrev pub IsProperEvent : Event → Type 0
+IsProperEvent (Called call) = IsProperCall call
+IsProperEvent (Delivered place) = Unit {0}
+IsProperEvent (Answered place) = Unit {0}
+IsProperEvent (Elapsed time) = Unit {0}
+
+-- the law: it holds after every schedule of such events
 abbrev pub HoldsOnEverySchedule : Type 0
-HoldsOnEverySchedule = (ends : Ends) → AreProper ends → (schedule : List Event) → IsLawful ends (run ends new_world schedule)
+HoldsOnEverySchedule =
+    (ends : Ends) → AreProper ends → (schedule : List Event) → All IsProperEvent schedule → IsLawful ends (run ends new_world schedule)
 
 -- a list goes on as another one
 abbrev pub IsFrontOf : {T : Type 0} → List T → List T → Type 0

@@ -1,3 +1,4 @@
+pub mod FirstForm
 pub mod World
 pub mod Law
 pub mod WholeLines

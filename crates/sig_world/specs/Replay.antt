@@ -1,14 +1,20 @@
 -- What a script prints: both ends run under its lines, one after another, over new stores at time 0.
-use Rattle.std.specs.Prelude.{ℕ, zero, suc, List, [], ◌∷◌, ◌++◌, ◌+◌, Bool, true, false, Option, Some, None, is_none, is_some, codes, decimal, length, unwrap_or, if◌then◌else◌}
+use Rattle.std.specs.Prelude.{ℕ, zero, suc, List, [], ◌∷◌, ◌++◌, ◌+◌, Option, Some, None, is_none, is_some, codes, decimal, length, unwrap_or, if◌then◌else◌}
 use Rattle.sig_json.specs.declared.limits.TheConstants.{LAST_NUMBER}
 use Rattle.sig_jws.specs.declared.key.Key.{Key}
-use Rattle.sig_set.specs.declared.heard.Heard.{Heard}
-use Rattle.sig_set.specs.declared.heard.Heard.TheVariants.{Accepted, Seen, NotTaken}
+use Rattle.sig_subject.specs.declared.plain.Plain.TheVariants as plain
+use Rattle.sig_subject.specs.declared.simple.Simple.TheVariants as simple
+use Rattle.sig_subject.specs.declared.subject.Subject.TheVariants as subject
+use Rattle.sig_caep.specs.declared.kind.CaepKind.TheVariants as caep
+use Rattle.sig_event.specs.declared.event.Event.{Event}
+use Rattle.sig_event.specs.declared.event.Event.TheVariants as event
+use Rattle.sig_rxnode.specs.declared.heard.Heard.{Heard}
+use Rattle.sig_rxnode.specs.declared.heard.Heard.TheVariants.{Accepted, Seen, NotTaken}
 use Rattle.sig_set.specs.declared.trust.Trust.{Trust}
-use Rattle.sig_set.specs.Journal.{distinct}
-use Rattle.sig_set.specs.Printed.{table_text}
+use Rattle.sig_rxnode.specs.Journal.{distinct}
+use Rattle.sig_rxnode.specs.Printed.{table_text, yes_or_no}
 use Rattle.sig_set.specs.Spelled.{code_text, spot_text}
-use Rattle.sig_set.specs.Table.{fold_rows}
+use Rattle.sig_rxnode.specs.Rows.{fold_rows}
 use Rattle.sig_outbox.specs.declared.want.Defaults.TheVariants as defaults
 use Rattle.sig_outbox.specs.declared.rules.Client.{Client}
 use Rattle.sig_outbox.specs.declared.rules.Rules.{Rules}
@@ -34,7 +40,7 @@ use Rattle.sig_world.specs.World.{Ends, World, Reply, new_world, at, called, del
 
 -- a client of this name, whose tokens are for the receiver
 abbrev pub client_named : List ℕ → Client
-client_named name = record { name = name; bearer = name; aud = codes "https://rp.example" }
+client_named name = record { name = name; bearer = name; aud = codes "https://rp.example" ∷ [] }
 
 -- the transmitter's key
 abbrev pub replay_key : Key
@@ -80,6 +86,16 @@ create_call client = call.Create client (record { requested = None; delivery = N
 abbrev pub poll_call : List ℕ → List ℕ → ℕ → Call
 poll_call client stream most = call.Poll client stream (record { max = Some most; acks = []; errors = [] })
 
+-- the call that says that the session of an opaque subject is revoked (CAEP 1.0, section 3.1)
+abbrev pub revoked : Event
+revoked = event.Caep (record {
+  common = record { event_timestamp = None; initiating_entity = None; reason_admin = None; reason_user = None };
+  kind = caep.SessionRevoked;
+})
+
+abbrev pub publish_call : List ℕ → List ℕ → Call
+publish_call id name = call.Publish id (subject.Simple (simple.Plain (plain.Opaque name))) revoked
+
 -- what stands at a place that is counted from 1
 abbrev pub counted_at : {T : Type 0} → ℕ → List T → Option T
 counted_at zero xs = None
@@ -111,10 +127,6 @@ messages_text number place [] = []
 messages_text number place (t ∷ more) =
     numbered number (codes "m" ++ decimal place ++ codes " " ++ token_name t.stream t.number)
     ++ messages_text number (place + 1) more
-
-abbrev pub yes_or_no : Bool → List ℕ
-yes_or_no true = codes "yes"
-yes_or_no false = codes "no"
 
 -- the transmitter's answer, behind so many messages
 abbrev pub call_text : ℕ → ℕ → Answer → List ℕ
@@ -167,7 +179,7 @@ played_call number world c =
 abbrev pub played_publication : ℕ → World → List ℕ → List ℕ → Played
 played_publication number world id subject =
     if is_some (publication_of id (sum_in replay_ends world).parts.published) then refused number world
-    else played_call number world (call.Publish id subject)
+    else played_call number world (publish_call id subject)
 
 -- a message reaches the receiver, where there is one
 abbrev pub played_delivery : ℕ → World → Option Token → Played

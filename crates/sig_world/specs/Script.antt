@@ -1,13 +1,13 @@
 -- The lines of a script: words with one space between them, and JSON to the end of the line.
-use Rattle.std.specs.Prelude.{ℕ, List, [], ◌∷◌, ◌==◌, Bool, true, false, not, ◌&&◌, ◌||◌, Option, Some, None, option_map, option_and_then, bytes_eq, codes, length, nat_lt, nat_le, unwrap_or, if◌then◌else◌}
+use Rattle.std.specs.Prelude.{ℕ, List, [], ◌∷◌, ◌==◌, Bool, true, false, not, ◌&&◌, ◌||◌, Option, Some, None, option_map, option_and_then, bytes_eq, codes, length, nat_lt, nat_le, if◌then◌else◌}
 use Rattle.std.specs.List.{list_all, position_or_len, before_first, after_first}
 use Rattle.std.specs.Str.{is_utf8}
 use Rattle.std.specs.Str.Parse.{digits_value}
 use Rattle.serde_json.specs.Data.{Data}
 use Rattle.uuid.specs.Text.{hyphenated_text, lower, parsed}
-use Rattle.sig_json.specs.Json.{json_of, member_of, text_member}
+use Rattle.sig_json.specs.Json.{json_of, text_member}
 use Rattle.sig_json.specs.declared.limits.TheConstants.{LAST_NUMBER, SCRIPT_LINE_BYTES}
-use Rattle.sig_set.specs.FirstForm.{fits_events, fits_subject, where_there}
+use Rattle.sig_world.specs.FirstForm.{has_first_form, id_in}
 use Rattle.sig_world.specs.declared.script.ScriptLine.{ScriptLine}
 use Rattle.sig_world.specs.declared.script.ScriptLine.TheVariants.{Skipped, Create, Publish, Poll, Deliver, Answer}
 
@@ -66,17 +66,9 @@ poll_line c = if is_client c.word then option_and_then (stream_and_most c.word) 
 abbrev pub publish_id_of : Data → Option (List ℕ)
 publish_id_of body = option_map (hyphenated_text lower) (option_and_then parsed (text_member (codes "publish_id") body))
 
--- a publication of the first form: a UUID, an opaque subject, and the one event with nothing in it; further members are
--- passed over
-abbrev pub has_first_form : Data → Bool
-has_first_form body =
-    where_there fits_subject (member_of (codes "sub_id") body) && where_there fits_events (member_of (codes "events") body)
-
-abbrev pub subject_of : Data → List ℕ
-subject_of body = unwrap_or (option_and_then (text_member (codes "id")) (member_of (codes "sub_id") body)) []
-
+-- a publication of the first form; further members are passed over
 abbrev pub publication_line : Data → List ℕ → Option ScriptLine
-publication_line body id = if has_first_form body then Some (Publish id (subject_of body)) else None
+publication_line body id = if has_first_form body then Some (Publish id (id_in body)) else None
 
 -- `publish <json>`
 abbrev pub body_line : Data → Option ScriptLine

@@ -1,12 +1,13 @@
 -- A transmitter and a receiver, the messages between them, and what a schedule makes of them.
+use Rattle.std.specs.Option.{option_to_list}
 use Rattle.std.specs.Prelude.{ℕ, zero, suc, List, [], ◌∷◌, ◌++◌, Bool, true, false, ◌&&◌, Option, Some, None, bytes_eq, nat_le, if◌then◌else◌}
 use Rattle.std.specs.List.{list_any, list_all}
 use Rattle.sig_json.specs.declared.limits.TheConstants.{LAST_NUMBER}
-use Rattle.sig_set.specs.declared.heard.Heard.{Heard}
-use Rattle.sig_set.specs.declared.heard.Heard.TheVariants.{Accepted, Seen, NotTaken}
+use Rattle.sig_rxnode.specs.declared.heard.Heard.{Heard}
+use Rattle.sig_rxnode.specs.declared.heard.Heard.TheVariants.{Accepted, Seen, NotTaken}
 use Rattle.sig_set.specs.declared.trust.Trust.{Trust}
 use Rattle.sig_set.specs.Spelled.{code_text}
-use Rattle.sig_set.specs.Journal.{answer_to, journal_by}
+use Rattle.sig_rxnode.specs.Journal.{answer_to, journal_by}
 use Rattle.sig_set.specs.Written.{token_text}
 use Rattle.sig_outbox.specs.declared.rules.Rules.{Rules}
 use Rattle.sig_outbox.specs.declared.token.Token.{Token}
@@ -20,8 +21,7 @@ use Rattle.sig_outbox.specs.declared.answer.Answer.{Answer}
 use Rattle.sig_outbox.specs.declared.answer.Answer.TheVariants as answer
 use Rattle.sig_outbox.specs.declared.fact.Fact.{Fact}
 use Rattle.sig_outbox.specs.Owed.{Sum, empty_sum, sum_of}
-use Rattle.sig_outbox.specs.Table.{answer_of, change_of, over_top, facts_of, keeps}
-use Rattle.sig_outbox.specs.Sound.{is_proper_call}
+use Rattle.sig_outbox.specs.Table.{answer_of, change_of, over_top, keeps}
 
 -- what stays the same: the transmitter's rules and store, and whom the receiver trusts
 pub record Ends : Type 0 where
@@ -82,11 +82,11 @@ tells_answers replies ask =
     list_all (λ jti. was_answered is_taken jti replies) ask.acks
     && list_all (λ (e : Reported). was_answered (is_refused_as e.code) e.jti replies) ask.errors
 
--- a call that may come: proper, and no answer but by a poll that tells only what the receiver answered
+-- a call that may come: no answer but by a poll that tells only what the receiver answered
 abbrev pub may_come : List Reply → Call → Bool
 may_come replies (Create client want) = true
 may_come replies (Poll client stream ask) = tells_answers replies ask
-may_come replies (Publish id subject) = is_proper_call (Publish id subject)
+may_come replies (Publish id subject event) = true
 may_come replies (Settle stream number outcome) = false
 
 -- what the facts come to over the transmitter's new store
@@ -109,7 +109,7 @@ abbrev pub called : Ends → Call → World → World
 called ends call world =
     if over_top ends.rules (sum_in ends world) call world.time then world
     else record {
-      facts = world.facts ++ facts_of (change_of ends.rules (sum_in ends world) call world.time);
+      facts = world.facts ++ option_to_list (change_of ends.rules (sum_in ends world) call world.time);
       journal = world.journal;
       messages = world.messages ++ handed_by (answer_of ends.rules (sum_in ends world) call world.time);
       replies = world.replies;

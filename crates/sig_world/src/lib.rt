@@ -1,7 +1,7 @@
 //! A transmitter and a receiver side by side (OpenID Shared Signals Framework 1.0, with RFC 8935 and RFC 8936), and the
 //! script that runs them.
 //!
-//! It stands on `sig_outbox` for the transmitter, on `sig_set` for the receiver, and on `sig_outside` for lines, sources
+//! It stands on `sig_outbox` for the transmitter, on `sig_rxnode` for the receiver, and on `sig_outside` for lines, sources
 //! and sinks. `specs/World` says what a schedule of calls, deliveries and answers makes of both ends, by the same words
 //! as the contracts of their calls; `laws` promises what holds after every schedule, whatever is lost, repeated or
 //! reordered. `replay` runs both ends under a script, and writes the text that `specs/Replay` gives for it.
@@ -10,6 +10,7 @@
 //! puts what it prints, in large pieces (`specs/Telling`).
 #![tactic(auto)]
 
+mod first_form;
 mod gathering;
 pub mod laws;
 mod replay_end;

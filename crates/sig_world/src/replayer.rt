@@ -5,6 +5,8 @@ ghost use Rattle.sig_set.specs.Spelled.{code_text};
 ghost use Rattle.sig_outbox.specs.Kept.{Ready};
 ghost use Rattle.sig_outbox.specs.Steps.{IsReady};
 ghost use Rattle.sig_world.specs.Replay.{counted_at, sum_after};
+ghost use Rattle.sig_event.specs.declared.event.Event.{Event};
+ghost use Rattle.sig_world.specs.Replay as spec;
 ghost use Rattle.sig_world.specs.World as world;
 ghost use Rattle.sig_world.specs.World.{handed_by};
 
@@ -14,13 +16,17 @@ use crate::running::print_owed;
 use crate::script::{ScriptLine, script_line};
 use crate::settings::{STORE_ID, replay_rules, replay_trust};
 use crate::{ReplayEnd, Stop, TellFault, Teller, print_table};
+use sig_caep::{CaepEvent, CaepKind, Common};
+use sig_event::Event;
 use sig_json::limits::SCRIPT_LINE_BYTES;
 use sig_json::{Bytes, Items, Memory, Text};
 use sig_outbox::{
     Answer, Call, Outbox, Outcome, PollAsk, PrepareFault, Prepared, Rules, Step, Token, Want,
 };
 use sig_outside::Sink;
-use sig_set::{Code, Heard, Receiver, Trust, signed_claims};
+use sig_rxnode::{Heard, Receiver};
+use sig_set::{Code, Trust, signed_claims};
+use sig_subject::{Plain, Simple, Subject};
 use std::alloc::Global;
 
 /// A transmitter's core and a receiver, the messages between them, and the answers to these.
@@ -207,7 +213,9 @@ impl Replayer {
         if self.outbox.has_publication(&id) {
             return Err(refused(number));
         }
-        self.call(number, &Call::Publish { id, subject }, text)
+        let subject = Subject::Simple(Simple::Plain(Plain::Opaque { id: subject }));
+        let event = Event::Caep(revoked());
+        self.call(number, &Call::Publish { id, subject, event }, text)
     }
 
     fn answer(&mut self, number: u64, place: u64, text: &mut Bytes) -> Result<(), TellFault>
@@ -287,6 +295,21 @@ impl Replayer {
         )?;
         commit(&mut self.outbox, change);
         keep_handed(&mut self.messages, answer)
+    }
+}
+
+// A session was revoked, and no more is said (CAEP 1.0, section 3.1).
+fn revoked() -> CaepEvent
+    ensures { Event.Caep result ≡ spec.revoked }
+{
+    CaepEvent {
+        common: Common {
+            event_timestamp: None,
+            initiating_entity: None,
+            reason_admin: None,
+            reason_user: None,
+        },
+        kind: CaepKind::SessionRevoked,
     }
 }
 

@@ -1,5 +1,5 @@
 use sig_outbox::Token;
-use sig_set::Heard;
+use sig_rxnode::Heard;
 use std::marker::Model;
 
 /// The receiver's answer to a message.

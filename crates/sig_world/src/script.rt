@@ -7,9 +7,9 @@ ghost use Rattle.uuid.specs.Text.{hyphenated_text, lower, parsed};
 ghost use Rattle.sig_json.specs.Json.{text_member};
 ghost use Rattle.sig_world.specs.Script as spec;
 
+use crate::first_form::{has_first_form, id_in};
 use sig_json::limits::{LAST_NUMBER, SCRIPT_LINE_BYTES};
 use sig_json::{JsonFault, Memory, Text, Value, read, text_of};
-use sig_set::{fits_events, fits_subject, subject_in};
 use std::alloc::Global;
 use std::str;
 use uuid::Uuid;
@@ -224,12 +224,12 @@ fn body_line(alloc: Global, body: &Value) -> Result<Option<ScriptLine>, Memory>
 fn publication_line(alloc: Global, body: &Value, id: Uuid) -> Result<Option<ScriptLine>, Memory>
     ensures { IfOk result (λ found. found ≡ spec.publication_line (view body.now) (hyphenated_text lower id)) }
 {
-    if !fits_subject(body) || !fits_events(body) {
+    if !has_first_form(body) {
         return Ok(None);
     }
     Ok(Some(ScriptLine::Publish {
         id: id_text(alloc, id)?,
-        subject: subject_in(alloc, body)?,
+        subject: id_in(alloc, body)?,
     }))
 }
 

@@ -1,6 +1,6 @@
 //! The settings of both ends under a script.
 
-ghost use Rattle.std.specs.Prelude.{◌≡◌, IfOk};
+ghost use Rattle.std.specs.Prelude.{◌≡◌, ◌∷◌, [], IfOk, codes};
 ghost use Rattle.sig_world.specs.Replay as spec;
 
 use sig_json::{Bytes, Items, Memory, Text};
@@ -61,8 +61,17 @@ fn client(alloc: Global, name: &str) -> Result<Client, Memory>
     Ok(Client {
         name: Text::of(alloc, name)?,
         bearer: Text::of(alloc, name)?,
-        aud: Text::of(alloc, "https://rp.example")?,
+        aud: audience(alloc)?,
     })
+}
+
+// The receiver, alone.
+fn audience(alloc: Global) -> Result<Items<Text>, Memory>
+    ensures { IfOk result (λ aud. aud ≡ codes "https://rp.example" ∷ []) }
+{
+    let mut texts = Vec::new(alloc);
+    texts.push(Text::of(alloc, "https://rp.example")?)?;
+    Ok(Items::of(texts))
 }
 
 fn key(alloc: Global) -> Result<Key, Memory>

@@ -3,14 +3,15 @@
 ghost use Rattle.std.specs.Prelude.{◌≡◌, ◌≤◌, ◌++◌, ◌+◌, ◌<◌, ◌^◌, ℕ, List, IfErr, OnErr, OnOk, length};
 ghost use Rattle.std.specs.Io.KnownBytes.{Appends};
 ghost use Rattle.sig_outside.specs.Causes.{AppendsPrefix};
-ghost use Rattle.sig_set.specs.Printed.{counts_text, row_text, rows_text, table_text};
+ghost use Rattle.sig_rxnode.specs.Printed.{counts_text, row_text, rows_text, table_text};
 ghost use Rattle.sig_world.specs.Telling.{TableEnd, WhyPut};
 
 use crate::ReplayEnd;
 use crate::gathering::{put_gathered, put_if};
 use sig_json::{Bytes, Memory};
 use sig_outside::Sink;
-use sig_set::{Receiver, Row, counts_line, row_line};
+use sig_rxnode::{Receiver, counts_line, row_line};
+use sig_sessions::Row;
 use std::alloc::Global;
 
 /// Prints what is gathered, the rows and the counts. The ending is `Done`, `Memory` or `Output`.
@@ -35,7 +36,7 @@ pub fn print_table<O: Sink>(
 fn print_counts<O: Sink>(
     alloc: Global,
     rows: usize,
-    tokens: usize,
+    tokens: u64,
     gathered: &mut Bytes,
     output: &mut O,
 ) -> ReplayEnd
@@ -110,7 +111,7 @@ fn add_row(alloc: Global, place: u64, row: &Row, gathered: &mut Bytes) -> Result
     gathered.add(line.as_str().as_bytes())
 }
 
-fn add_counts(alloc: Global, rows: usize, tokens: usize, gathered: &mut Bytes) -> Result<(), Memory>
+fn add_counts(alloc: Global, rows: usize, tokens: u64, gathered: &mut Bytes) -> Result<(), Memory>
     ensures ok { OnOk result (gathered.new ≡ gathered.old ++ counts_text rows tokens) }
     ensures err { OnErr result (gathered.new ≡ gathered.old) }
 {

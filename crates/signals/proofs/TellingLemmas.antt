@@ -1,7 +1,7 @@
 -- What `fold` does with one line more.
 use Rattle.std.proofs.Common.{◌≡◌, ◌∙◌, ap, sym, subst, ℕ, ◌+◌, List, [], ◌∷◌, ◌++◌, length, Option, refl, arith, append-nil}
 use Rattle.sig_json.specs.declared.limits.TheConstants.{TOKEN_BYTES}
-use Rattle.sig_set.specs.Receiver.{Received, StandsFor}
+use Rattle.sig_rxnode.specs.Receiver.{Received, StandsFor}
 use Rattle.sig_set.specs.declared.trust.Trust.{Trust}
 use Rattle.sig_world.specs.Telling.{IsLineOf, TakesLine}
 use Rattle.signals.specs.Fold.{fold_telling, journal_after, journal_of, line_text, lines_text}

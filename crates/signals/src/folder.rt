@@ -2,15 +2,16 @@
 
 ghost use Rattle.std.specs.Prelude.{◌≡◌, ◌++◌, ℕ, List, [], OnErr, OnOk, option_copied};
 ghost use Rattle.sig_json.specs.declared.limits.TheConstants.{TOKEN_BYTES};
-ghost use Rattle.sig_set.specs.Printed.{answer_text};
-ghost use Rattle.sig_set.specs.Receiver.{StandsFor};
+ghost use Rattle.sig_rxnode.specs.Printed.{answer_text};
+ghost use Rattle.sig_rxnode.specs.Receiver.{StandsFor};
 ghost use Rattle.sig_world.specs.Telling.{IsLineOf};
 ghost use Rattle.signals.specs.Fold.{fold_telling, journal_after, journal_of, line_text};
 
 use sig_json::limits::TOKEN_BYTES;
 use sig_json::{Bytes, Memory, Text};
 use sig_outside::Sink;
-use sig_set::{Code, Heard, Receiver, Spot, Trust, answer_line};
+use sig_rxnode::{Heard, Receiver, answer_line};
+use sig_set::{Code, Spot, Trust};
 use sig_world::{ReplayEnd, TellFault, Teller, print_table};
 use std::alloc::Global;
 
@@ -81,12 +82,12 @@ impl Folder {
 
     // A line that is longer than a token may be is refused without its bytes.
     fn refuse_long(&self, number: u64, gathered: &mut Bytes) -> Result<(), Memory>
-        ensures text { OnOk result (gathered.new ≡ gathered.old ++ answer_text number (Heard.NotTaken Code.InvalidRequest Spot.Unbuilt)) }
+        ensures text { OnOk result (gathered.new ≡ gathered.old ++ answer_text number (Heard.NotTaken Code.InvalidRequest Spot.Length)) }
         ensures err { OnErr result (gathered.new ≡ gathered.old) }
     {
         let heard = Heard::NotTaken {
             code: Code::InvalidRequest,
-            spot: Spot::Unbuilt,
+            spot: Spot::Length,
         };
         self.add_verdict(number, &heard, gathered)
     }

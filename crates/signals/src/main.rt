@@ -1,12 +1,14 @@
-//! The program `signals`: security event tokens by the OpenID Shared Signals Framework, judged and folded.
+//! The program `signals`: security event tokens by the OpenID Shared Signals Framework, judged and folded, and a
+//! transmitter and a receiver under a script.
 //!
-//!     words -> command -> lines of the input -> verdicts, gathered -> output, in large pieces
-//!                                            -> session table      -> output, at the end
+//!     words -> command -> lines of the input -> what each line does, gathered -> output, in large pieces
+//!                                            -> session table, what is owed   -> output, at the end
 //!
 //! `run` does everything over any source and sink, and its contract says how each run ends: its status, why it ends so,
 //! and the text that is written (`specs/Ends`, `specs/Fold`). `main` calls it over standard input and output. A command is
-//! a `Teller` of `sig_world`, which tells it the lines and puts what it prints; `fold` is the one in `folder`. This crate
-//! stands on `sig_set` for the judgement and the table, and on `sig_outside` for sources and sinks.
+//! a `Teller` of `sig_world`, which tells it the lines and puts what it prints; `fold` is the one in `folder`, and
+//! `replay` stands in `sig_world`. This crate stands on `sig_rxnode` for the receiver, on `sig_set` for whom it trusts,
+//! and on `sig_outside` for sources and sinks.
 //!
 //! Left out: that bytes really reach or leave the system, which no contract can say, and how long anything takes.
 #![tactic(auto)]

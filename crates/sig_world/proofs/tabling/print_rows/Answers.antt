@@ -1,5 +1,5 @@
 use Rattle.std.proofs.Common.{◌∙◌, ap, sym, refl, ◌+◌, ◌++◌, drop, arith}
-use Rattle.sig_set.specs.Printed.{row_text, rows_text}
+use Rattle.sig_rxnode.specs.Printed.{row_text, rows_text}
 use Rattle.std.proofs.KnownBytes.{Appends-trans}
 use Rattle.sig_world.proofs.TableLemmas.{cause_later, table_join, table_longer, rows_text-next, row_added, row_put}
 use Rattle.sig_world.proofs.tabling.print_rows.Goals as goal

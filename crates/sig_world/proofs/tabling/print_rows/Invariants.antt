@@ -1,6 +1,6 @@
 use Rattle.std.proofs.Common.{◌≡◌, ◌≤◌, ◌+◌, ◌++◌, ℕ, List, drop}
 use Rattle.std.specs.Io.KnownBytes.{Appends}
-use Rattle.sig_set.specs.Printed.{rows_text}
+use Rattle.sig_rxnode.specs.Printed.{rows_text}
 use Rattle.sig_world.proofs.tabling.print_rows.Given as goal
 
 abbrev pub invariant-loop-row : goal.invariant-loop-row

@@ -1,5 +1,5 @@
 use Rattle.std.proofs.Common.{◌∙◌, ap, sym, ◌++◌, length, append_assoc}
-use Rattle.sig_set.specs.Printed.{counts_text, rows_text}
+use Rattle.sig_rxnode.specs.Printed.{counts_text, rows_text}
 use Rattle.sig_world.proofs.TableLemmas.{cause_later, table_join, table_longer, counts_follow}
 use Rattle.sig_world.proofs.tabling.print_table.Goals as goal
 

@@ -1,5 +1,5 @@
 use Rattle.std.proofs.Common.{◌∙◌, ◌++◌, ap, sym, subst, length, append_assoc}
-use Rattle.sig_set.specs.Printed.{table_text}
+use Rattle.sig_rxnode.specs.Printed.{table_text}
 use Rattle.sig_world.specs.Telling.{TableEnd}
 use Rattle.sig_world.specs.World.{new_world}
 use Rattle.sig_world.specs.Replay.{end_text, owed_text, script_world}
