@@ -1,0 +1,77 @@
+#!/usr/bin/env python3
+"""Makes signed tokens for the benchmark of `fold`, by a seed.
+
+`make_tokens.py COUNT SUBJECTS SEED` prints COUNT tokens of about 640 bytes, one a line, about SUBJECTS distinct subjects.
+They go round the event types of CAEP and RISC. The same words give the same bytes.
+"""
+import base64
+import hashlib
+import hmac
+import json
+import random
+import sys
+
+KEY = b"0123456789abcdef0123456789abcdef"
+CAEP = "https://schemas.openid.net/secevent/caep/event-type/"
+RISC = "https://schemas.openid.net/secevent/risc/event-type/"
+SIZE = 640
+
+EVENTS = [
+    (CAEP + "session-revoked", {"initiating_entity": "policy", "reason_admin": "landspeed"}),
+    (CAEP + "session-established", {"acr": "urn:mace:incommon:iap:silver", "amr": ["pwd", "otp"]}),
+    (CAEP + "session-presented", {"ext_id": "12345"}),
+    (CAEP + "credential-change", {"credential_type": "fido2-roaming", "change_type": "create"}),
+    (CAEP + "assurance-level-change", {"namespace": "NIST-AAL", "current_level": "nist-aal2"}),
+    (CAEP + "device-compliance-change", {"previous_status": "compliant", "current_status": "not-compliant"}),
+    (CAEP + "token-claims-change", {"claims": {"role": "ro-admin"}}),
+    (RISC + "account-disabled", {"reason": "hijacking"}),
+    (RISC + "account-enabled", {}),
+    (RISC + "credential-compromise", {"credential_type": "password"}),
+    (RISC + "sessions-revoked", {}),
+    (RISC + "opt-in", {}),
+]
+
+
+def part(data):
+    return base64.urlsafe_b64encode(data).rstrip(b"=").decode()
+
+
+def text(value):
+    return json.dumps(value, separators=(",", ":"), sort_keys=True).encode()
+
+
+HEADER = part(text({"alg": "HS256", "typ": "secevent+jwt"}))
+
+
+def signed(payload):
+    front = HEADER + "." + part(text(payload))
+    return front + "." + part(hmac.new(KEY, front.encode(), hashlib.sha256).digest())
+
+
+def token(number, subjects, rng):
+    uri, payload = EVENTS[rng.randrange(len(EVENTS))]
+    claims = {
+        "aud": "https://rp.example",
+        "events": {uri: payload},
+        "iat": 1700000000 + number,
+        "iss": "https://idp.example",
+        "jti": f"6ba7b810-9dad-11d1-80b4-00c04fd430c8.acme-1.{number}",
+        "sub_id": {"format": "iss_sub", "iss": "https://idp.example/", "sub": f"user-{rng.randrange(subjects):08d}"},
+        "txn": "",
+    }
+    missing = (SIZE - len(signed(claims))) * 3 // 4
+    claims["txn"] = "".join(rng.choice("0123456789abcdef") for _ in range(max(missing, 0)))
+    return signed(claims)
+
+
+def main():
+    if len(sys.argv) != 4:
+        sys.exit("usage: make_tokens.py COUNT SUBJECTS SEED")
+    count, subjects, seed = (int(word) for word in sys.argv[1:])
+    rng = random.Random(seed)
+    for number in range(1, count + 1):
+        print(token(number, subjects, rng))
+
+
+if __name__ == "__main__":
+    main()
