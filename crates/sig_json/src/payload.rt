@@ -1,4 +1,4 @@
-ghost use Rattle.std.specs.Prelude.{◌≡◌, IfOk, Some, option_map};
+ghost use Rattle.std.specs.Prelude.{◌≡◌, IfOk, OnErr, Some, option_map};
 ghost use Rattle.serde_json.specs.Data.{no_members, object, put};
 ghost use Rattle.serde_json.specs.View.{view, members_view};
 ghost use Rattle.sig_json.specs.Payloads.{put_kept, spelled, whole_data};
@@ -7,32 +7,34 @@ use crate::{JsonFault, MemberKind, Memory, Text, read};
 use serde_json::{Map, Value};
 use std::alloc::Global;
 
-/// A payload that is being written, with the members that were put so far.
+/// A JSON object that is being written (an event's payload, a subject, claims), with the members that were put so far.
 pub type Payload = Map<String, Value>;
 
-/// Puts a member.
+/// Puts a member, in place of one of that name. After want of memory the payload is as before.
 pub fn put_member<K: MemberKind>(
     alloc: Global,
     payload: &mut Payload,
     name: &str,
     kept: &K::Kept,
 ) -> Result<(), Memory>
-    ensures { IfOk result (λ _. members_view payload.new.entries
+    ensures put { IfOk result (λ _. members_view payload.new.entries
         ≡ put_kept name.now (Some (K.kept kept.now)) (members_view payload.old.entries)) }
+    ensures err { OnErr result (members_view payload.new.entries ≡ members_view payload.old.entries) }
 {
     let value = K::write(alloc, kept)?;
     put_value(alloc, payload, name, value)
 }
 
-/// Puts a member where there is one.
+/// Puts a member where there is one. After want of memory the payload is as before.
 pub fn put_optional_member<K: MemberKind>(
     alloc: Global,
     payload: &mut Payload,
     name: &str,
     kept: &Option<K::Kept>,
 ) -> Result<(), Memory>
-    ensures { IfOk result (λ _. members_view payload.new.entries
+    ensures put { IfOk result (λ _. members_view payload.new.entries
         ≡ put_kept name.now (option_map K.kept kept.now) (members_view payload.old.entries)) }
+    ensures err { OnErr result (members_view payload.new.entries ≡ members_view payload.old.entries) }
 {
     match kept {
         Some(kept) => put_member::<K>(alloc, payload, name, kept),
@@ -40,14 +42,16 @@ pub fn put_optional_member<K: MemberKind>(
     }
 }
 
-/// Puts a member with this value, which replaces one of that name.
+/// Puts a member with this value, in place of one of that name; the value is kept as it is, by no rule. After want of
+/// memory the payload is as before.
 pub fn put_value(
     alloc: Global,
     payload: &mut Payload,
     name: &str,
     value: Value,
 ) -> Result<(), Memory>
-    ensures { IfOk result (λ _. members_view payload.new.entries ≡ put name.now (view value) (members_view payload.old.entries)) }
+    ensures put { IfOk result (λ _. members_view payload.new.entries ≡ put name.now (view value) (members_view payload.old.entries)) }
+    ensures err { OnErr result (members_view payload.new.entries ≡ members_view payload.old.entries) }
 {
     let key = String::from_str(alloc, name)?;
     payload.insert(key, value)?;

@@ -4,8 +4,8 @@ use Rattle.serde_json.specs.Data.{put}
 use Rattle.serde_json.specs.View.{view, members_view}
 use Rattle.sig_json.proofs.payload.put_value.Goals as goal
 
-pub returns : goal.returns
-returns c =
+pub returns-clause-put : goal.returns-clause-put
+returns-clause-put c =
     ap members_view c.in_ok-insert.ensures.entries
     ∙ members_view-insert_entry c.args.payload.now.entries c.in_ok-key.key c.args.value
     ∙ ap (λ k. put k (view c.args.value) (members_view c.args.payload.now.entries)) c.in_ok-key.ensures.ok
