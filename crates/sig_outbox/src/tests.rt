@@ -3,16 +3,22 @@
 ghost use Rattle.std.specs.Prelude.{◌≡◌, [], ◌∷◌, IfOk, codes};
 ghost use Rattle.sig_outbox.specs.Sound.{IsProperRules};
 
+mod calls;
+
+use self::calls::{
+    DISABLED, HIJACKED, REVOKED, TOKEN, create, event, hijacking, one_text, opaque,
+    poll_for_tokens, poll_with_a_kept_error, poll_with_an_acknowledgement, publish,
+    publish_with_reason, revoke, settle,
+};
 use crate::tokens::claims_for;
 use crate::{
-    Answer, Call, Client, Defaults, Delivery, Outbox, Outcome, PollAsk, PrepareFault, Reported,
-    Rules, Step, StreamConf, Want,
+    Answer, Call, Client, Defaults, Delivery, Outbox, PrepareFault, Rules, Step, StreamConf,
 };
 use sig_event::Event;
-use sig_json::{Bytes, Items, Memory, Text, read};
+use sig_json::{Bytes, Items, Memory, Text};
 use sig_jws::Key;
 use sig_set::Claims;
-use sig_subject::{Plain, Simple, Subject};
+use sig_subject::Subject;
 use std::alloc::Global;
 use std::test::Fail;
 
@@ -20,30 +26,14 @@ const STORE: [u8; 16] = [
     0x6b, 0xa7, 0xb8, 0x10, 0x9d, 0xad, 0x11, 0xd1, 0x80, 0xb4, 0x00, 0xc0, 0x4f, 0xd4, 0x30, 0xc8,
 ];
 
-const TOKEN: &str = "6ba7b810-9dad-11d1-80b4-00c04fd430c8.acme-1.1";
-
 const RP: &str = "https://rp.example";
 
 const OTHER: &str = "https://other.example";
 
-const REVOKED: &str = "https://schemas.openid.net/secevent/caep/event-type/session-revoked";
-
-const DISABLED: &str = "https://schemas.openid.net/secevent/risc/event-type/account-disabled";
-
 const ENABLED: &str = "https://schemas.openid.net/secevent/risc/event-type/account-enabled";
-
-const HIJACKED: &str = r#"{"reason":"hijacking"}"#;
 
 // With this many bytes of a reason the payload of a revoked session has 6,000; Python's `len` of the text says so.
 const REASON_BYTES: u64 = 5740;
-
-fn one_text(alloc: Global, text: &str) -> Result<Items<Text>, Memory>
-    ensures { IfOk result (λ texts. texts ≡ text.now ∷ []) }
-{
-    let mut texts = Vec::new(alloc);
-    texts.push(Text::of(alloc, text)?)?;
-    Ok(Items::of(texts))
-}
 
 fn acme(alloc: Global) -> Result<Client, Memory>
     ensures name { IfOk result (λ c. c.name ≡ codes "acme") }
@@ -87,71 +77,6 @@ fn taken(outbox: &mut Outbox, rules: &Rules, call: &Call, now: u64) -> Result<An
     Ok(answer)
 }
 
-fn create(alloc: Global, requested: Option<Items<Text>>) -> Result<Call, Memory> {
-    Ok(Call::Create {
-        client: Text::of(alloc, "acme")?,
-        want: Want {
-            requested,
-            delivery: None,
-            description: None,
-        },
-    })
-}
-
-fn opaque(alloc: Global, name: &str) -> Result<Subject, Memory> {
-    let id = Text::of(alloc, name)?;
-    Ok(Subject::Simple(Simple::Plain(Plain::Opaque { id })))
-}
-
-fn event(alloc: Global, uri: &str, payload: &str) -> Result<Event, Fail> {
-    let payload = read(alloc, payload.as_bytes())?;
-    let subject = opaque(alloc, "s-77")?;
-    Ok(sig_event::from_json(alloc, uri, &payload, &subject)?)
-}
-
-fn publish(alloc: Global, id: &str, subject: &str, uri: &str, payload: &str) -> Result<Call, Fail> {
-    Ok(Call::Publish {
-        id: Text::of(alloc, id)?,
-        subject: opaque(alloc, subject)?,
-        event: event(alloc, uri, payload)?,
-    })
-}
-
-// A payload with a reason of so many bytes.
-fn with_reason(alloc: Global, count: u64) -> Result<String, Fail> {
-    let mut text = String::from_str(alloc, r#"{"reason_admin":""#)?;
-    for _ in 0..count {
-        text.push('x')?;
-    }
-    text.push_str(r#""}"#)?;
-    Ok(text)
-}
-
-// A publication that a subject's session is revoked.
-fn revoke(alloc: Global, id: &str, subject: &str) -> Result<Call, Fail> {
-    publish(alloc, id, subject, REVOKED, "{}")
-}
-
-fn poll(alloc: Global, acks: Vec<Text>, errors: Vec<Reported>) -> Result<Call, Memory> {
-    Ok(Call::Poll {
-        client: Text::of(alloc, "acme")?,
-        stream: Text::of(alloc, "acme-1")?,
-        ask: PollAsk {
-            max: Some(32),
-            acks: Items::of(acks),
-            errors: Items::of(errors),
-        },
-    })
-}
-
-fn settle(alloc: Global, number: u64) -> Result<Call, Memory> {
-    Ok(Call::Settle {
-        stream: Text::of(alloc, "acme-1")?,
-        number,
-        outcome: Outcome::Accepted,
-    })
-}
-
 // What an answer says, with the number of tokens in the place of the tokens.
 #[derive(Clone, Copy, Debug, PartialEq, Eq)]
 enum Said {
@@ -178,20 +103,41 @@ fn summary(answer: &Answer) -> Said {
     }
 }
 
+// The call moves in, so that no test has to let one go on each of its paths.
+fn answer_to(
+    rules: &Rules,
+    outbox: &mut Outbox,
+    call: Call,
+    now: u64,
+) -> Result<Answer, PrepareFault>
+    requires { IsProperRules rules.now }
+{
+    taken(outbox, rules, &call, now)
+}
+
 fn answered(rules: &Rules, outbox: &mut Outbox, call: Call, now: u64) -> Result<Said, PrepareFault>
     requires { IsProperRules rules.now }
 {
-    Ok(summary(&taken(outbox, rules, &call, now)?))
+    let answer = answer_to(rules, outbox, call, now)?;
+    Ok(summary(&answer))
 }
 
 // Whether the client's first stream is made, and stands as it asked.
+fn is_first_stream(answer: &Answer) -> bool {
+    match answer {
+        Answer::Made { conf } => {
+            conf.stream.as_str() == "acme-1" && conf.interval == 60 && has_audience(&conf.aud)
+        }
+        _ => false,
+    }
+}
+
 fn makes_first_stream(alloc: Global, rules: &Rules, outbox: &mut Outbox) -> Result<bool, Fail>
     requires { IsProperRules rules.now }
 {
-    let Answer::Made { conf } = taken(outbox, rules, &create(alloc, None)?, 1)? else {
-        return Ok(false);
-    };
-    Ok(conf.stream.as_str() == "acme-1" && conf.interval == 60 && has_audience(&conf.aud))
+    let call = create(alloc, None)?;
+    let answer = answer_to(rules, outbox, call, 1)?;
+    Ok(is_first_stream(&answer))
 }
 
 fn has_audience(aud: &Items<Text>) -> bool {
@@ -201,18 +147,23 @@ fn has_audience(aud: &Items<Text>) -> bool {
     }
 }
 
-// Whether a publication makes one token, the first of the client's first stream.
+// Whether one token is made, the first of the client's first stream.
+fn is_first_token(answer: &Answer) -> bool {
+    match answer {
+        Answer::Published { tokens, .. } => match tokens.as_slice() {
+            [one] => one.stream.as_str() == "acme-1" && one.number == 1,
+            _ => false,
+        },
+        _ => false,
+    }
+}
+
 fn makes_first_token(alloc: Global, rules: &Rules, outbox: &mut Outbox) -> Result<bool, Fail>
     requires { IsProperRules rules.now }
 {
     let call = revoke(alloc, "p1", "s-77")?;
-    let Answer::Published { tokens, .. } = taken(outbox, rules, &call, 7)? else {
-        return Ok(false);
-    };
-    match tokens.as_slice() {
-        [one] => Ok(one.stream.as_str() == "acme-1" && one.number == 1),
-        _ => Ok(false),
-    }
+    let answer = answer_to(rules, outbox, call, 7)?;
+    Ok(is_first_token(&answer))
 }
 
 #[test]
@@ -232,37 +183,55 @@ fn a_token_is_made_offered_and_settled(rt: HostRuntime) -> Result<(), Fail> {
     Ok(())
 }
 
-// Whether these are the claims of the first token about a hijacked account.
-fn says_the_publication(alloc: Global, claims: &Claims) -> Result<bool, Fail> {
-    let [told] = claims.events.as_slice() else {
-        return Ok(false);
-    };
-    Ok(
-        claims.jti.as_str() == TOKEN
-            && claims.iat == 7
-            && claims.iss.as_str() == "https://idp.example"
-            && has_audience(&claims.aud)
-            && claims.subject == opaque(alloc, "s-77")?
-            && *told == event(alloc, DISABLED, HIJACKED)?,
-    )
+fn has_first_frame(claims: &Claims) -> bool {
+    claims.jti.as_str() == TOKEN
+        && claims.iat == 7
+        && claims.iss.as_str() == "https://idp.example"
+        && has_audience(&claims.aud)
 }
 
-// Whether a poll offers one token, and it says the publication.
+fn is_about_the_session(alloc: Global, subject: &Subject) -> Result<bool, Fail> {
+    let wanted = opaque(alloc, "s-77")?;
+    Ok(*subject == wanted)
+}
+
+fn is_the_hijacking(alloc: Global, told: &Event) -> Result<bool, Fail> {
+    let wanted = event(alloc, DISABLED, HIJACKED)?;
+    Ok(*told == wanted)
+}
+
+// Whether these are the claims of the first token about a hijacked account.
+fn says_the_publication(alloc: Global, claims: &Claims) -> Result<bool, Fail> {
+    match claims.events.as_slice() {
+        [told] => Ok(
+            has_first_frame(claims)
+                && is_about_the_session(alloc, &claims.subject)?
+                && is_the_hijacking(alloc, told)?,
+        ),
+        _ => Ok(false),
+    }
+}
+
+// Whether one token is offered and no more, and it says the publication.
+fn is_the_publication(alloc: Global, answer: &Answer) -> Result<bool, Fail> {
+    match answer {
+        Answer::Sets {
+            tokens,
+            more: false,
+        } => match tokens.as_slice() {
+            [one] => says_the_publication(alloc, &one.claims),
+            _ => Ok(false),
+        },
+        _ => Ok(false),
+    }
+}
+
 fn offers_the_publication(alloc: Global, rules: &Rules, outbox: &mut Outbox) -> Result<bool, Fail>
     requires { IsProperRules rules.now }
 {
-    let call = poll(alloc, Vec::new(alloc), Vec::new(alloc))?;
-    let Answer::Sets {
-        tokens,
-        more: false,
-    } = taken(outbox, rules, &call, 8)?
-    else {
-        return Ok(false);
-    };
-    match tokens.as_slice() {
-        [one] => says_the_publication(alloc, &one.claims),
-        _ => Ok(false),
-    }
+    let call = poll_for_tokens(alloc)?;
+    let answer = answer_to(rules, outbox, call, 8)?;
+    is_the_publication(alloc, &answer)
 }
 
 #[test]
@@ -328,14 +297,33 @@ fn a_stream_gets_the_events_that_it_requests(rt: HostRuntime) -> Result<(), Fail
     Ok(())
 }
 
+fn has_one_token(answer: &Answer) -> bool {
+    match answer {
+        Answer::Published { tokens, .. } => tokens.as_slice().len() == 1,
+        _ => false,
+    }
+}
+
+// Whether a repeat is answered as the publication was.
+fn repeats(
+    rules: &Rules,
+    outbox: &mut Outbox,
+    repeat: Call,
+    first: &Answer,
+) -> Result<bool, PrepareFault>
+    requires { IsProperRules rules.now }
+{
+    let second = answer_to(rules, outbox, repeat, 8)?;
+    Ok(*first == second)
+}
+
 // Whether a publication about a hijacked account is answered by one token, and its repeat by the same.
 fn answers_a_repeat_alike(alloc: Global, rules: &Rules, outbox: &mut Outbox) -> Result<bool, Fail>
     requires { IsProperRules rules.now }
 {
-    let call = publish(alloc, "p1", "s-77", DISABLED, HIJACKED)?;
-    let first = taken(outbox, rules, &call, 7)?;
-    let second = taken(outbox, rules, &call, 8)?;
-    Ok(summary(&first) == Said::Published(1) && first == second)
+    let first = answer_to(rules, outbox, hijacking(alloc)?, 7)?;
+    let repeated = repeats(rules, outbox, hijacking(alloc)?, &first)?;
+    Ok(repeated && has_one_token(&first))
 }
 
 #[test]
@@ -358,23 +346,6 @@ fn a_repeat_makes_no_token_and_other_news_are_a_conflict(rt: HostRuntime) -> Res
     }
     assert_eq!(rt; outbox.owed("acme-1"), Some(1));
     Ok(())
-}
-
-// A poll that reports the first token under a code that keeps it.
-fn poll_with_a_kept_error(alloc: Global) -> Result<Call, Memory> {
-    let mut errors = Vec::new(alloc);
-    errors.push(Reported {
-        jti: Text::of(alloc, TOKEN)?,
-        code: Text::of(alloc, "authentication_failed")?,
-    })?;
-    poll(alloc, Vec::new(alloc), errors)
-}
-
-// A poll that acknowledges the first token.
-fn poll_with_an_acknowledgement(alloc: Global) -> Result<Call, Memory> {
-    let mut acks = Vec::new(alloc);
-    acks.push(Text::of(alloc, TOKEN)?)?;
-    poll(alloc, acks, Vec::new(alloc))
 }
 
 #[test]
@@ -409,12 +380,6 @@ fn a_client_has_16_streams_and_no_more(rt: HostRuntime) -> Result<(), Fail> {
     assert_eq!(rt; outbox.owed("acme-16"), Some(0));
     assert_eq!(rt; outbox.owed("acme-17"), None);
     Ok(())
-}
-
-// A publication with a reason of so many bytes.
-fn publish_with_reason(alloc: Global, count: u64) -> Result<Call, Fail> {
-    let payload = with_reason(alloc, count)?;
-    publish(alloc, "p1", "s-77", REVOKED, payload.as_str())
 }
 
 #[test]
