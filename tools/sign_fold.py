@@ -28,7 +28,7 @@ FRONT = GOOD.rsplit(".", 1)[0]
 
 
 def filled(size):
-    """T1 with a `txn` that fills its payload to so many bytes."""
+    """The first example token with a `txn` that fills its payload to so many bytes."""
     bare = len(text(claims(txn="")))
     return signed(HEADER, claims(txn="t" * (size - bare)))
 
@@ -80,7 +80,7 @@ EXAMPLES = [
     signed(b'["HS256"]', claims()),
     signed(header(typ="JWT"), claims()),
     signed(header(crit=["x"]), claims()),
-    signed(HEADER, b"[]"),
+    signed(HEADER, b'["x"]'),
     signed(HEADER, claims(iss=None)),
     signed(HEADER, claims(iss="https://other.example")),
     signed(header(alg="HS512"), claims()),

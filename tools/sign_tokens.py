@@ -110,7 +110,7 @@ TABLE = [
     ("CRITICAL", signed(header(crit=["x"]), claims()), "invalid_request crit"),
     ("CRITICAL_NULL", signed(dict(HEADER, crit=None), claims()), "invalid_request crit"),
     ("PAYLOAD_IS_NO_JSON", signed(HEADER, b"{}}"), "invalid_request payload"),
-    ("PAYLOAD_IS_NO_OBJECT", signed(HEADER, b"[]"), "invalid_request payload"),
+    ("PAYLOAD_IS_NO_OBJECT", signed(HEADER, b'["x"]'), "invalid_request payload"),
     ("NO_ISSUER", signed(HEADER, without("iss")), "invalid_request iss"),
     ("ISSUER_IS_NO_TEXT", signed(HEADER, claims(iss=[ISS])), "invalid_request iss"),
     ("OTHER_ISSUER", signed(HEADER, claims(iss="https://other.example")), "invalid_issuer iss"),
