@@ -1,8 +1,8 @@
 #!/usr/bin/env python3
 """Makes signed tokens for the benchmark of `fold`, by a seed.
 
-`make_tokens.py COUNT SUBJECTS SEED` prints COUNT tokens of about 640 bytes, one a line, about SUBJECTS distinct subjects.
-They go round the event types of CAEP and RISC. The same words give the same bytes.
+`make_tokens.py COUNT SUBJECTS SEED` prints COUNT tokens of about 640 bytes, one a line. Each is about one of SUBJECTS
+subjects and of one of twelve event types of CAEP and RISC, both drawn by the seed. The same words give the same bytes.
 """
 import base64
 import hashlib

@@ -1,9 +1,9 @@
 #!/usr/bin/env python3
 """Runs `fold` on generated tokens and prints tokens a second, peak memory, and instructions a token.
 
-`run_fold.py PROGRAM` runs the built program over 5,000 and 20,000 tokens of `make_tokens.py` about 100 subjects.
-Instructions are counted by `valgrind --tool=callgrind`, and those of an empty input are taken off. Memory is the peak of
-the resident set, less that of an empty input.
+`run_fold.py PROGRAM` runs the built program over 5,000 and 20,000 tokens of `make_tokens.py` about 100 subjects. Each run
+has to accept every token. Instructions are counted by `valgrind --tool=callgrind`, and memory is the peak of the resident
+set; what a run over one token takes is taken off both.
 """
 import os
 import re
@@ -40,14 +40,17 @@ def peak(program, path):
     run = subprocess.Popen([program, *WORDS], stdin=subprocess.PIPE, stdout=subprocess.PIPE)
     writer = threading.Thread(target=lambda: (run.stdin.write(b"".join(lines)), run.stdin.flush()))
     writer.start()
-    for _ in lines:
-        run.stdout.readline()
+    for number in range(1, len(lines) + 1):
+        verdict = run.stdout.readline()
+        if verdict != b"%d accepted\n" % number:
+            sys.exit(f"token {number}: {verdict!r}")
     writer.join()
     with open(f"/proc/{run.pid}/status") as status:
         held = int(re.search(r"VmHWM:\s+(\d+) kB", status.read()).group(1)) * 1024
     run.stdin.close()
-    run.stdout.read()
-    run.wait()
+    table = run.stdout.read().splitlines()
+    if run.wait() != 0 or not table[-1].endswith(b" tokens %d" % len(lines)):
+        sys.exit(f"status {run.returncode}, last line {table[-1:]}")
     return held
 
 
@@ -65,19 +68,18 @@ def main():
         sys.exit("usage: run_fold.py PROGRAM")
     program = os.path.abspath(sys.argv[1])
     with tempfile.TemporaryDirectory() as folder:
-        empty = os.path.join(folder, "empty")
-        open(empty, "wb").close()
-        base_held = peak(program, empty)
-        base_count = instructions(program, empty, folder)
+        one = tokens(folder, 1)
+        base_held = peak(program, one)
+        base_count = instructions(program, one, folder)
         for count in COUNTS:
             path = tokens(folder, count)
             taken = min(seconds(program, path) for _ in range(5))
             held = peak(program, path)
-            each = (instructions(program, path, folder) - base_count) / count
+            each = (instructions(program, path, folder) - base_count) / (count - 1)
             size = os.path.getsize(path) / count
             print(
                 f"{count} tokens of {size:.0f} bytes: {count / taken:,.0f} tokens a second, "
-                f"{(held - base_held) / count:,.0f} bytes of memory a token, {each:,.0f} instructions a token"
+                f"{(held - base_held) / (count - 1):,.0f} bytes of memory a token, {each:,.0f} instructions a token"
             )
 
 

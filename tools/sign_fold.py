@@ -6,31 +6,18 @@ crates/signals/src/tests/tokens.rt. Nothing here comes from the program under te
 """
 import sys
 
-from sign_tokens import AUD, HEADER, claims, header, part, signed, subject, text
+from sign_tokens import AUD, CAEP, EMAIL, GOOD, HEADER, RISC, claims, filled, header, part, signed, subject, text
 
-CAEP = "https://schemas.openid.net/secevent/caep/event-type/"
-RISC = "https://schemas.openid.net/secevent/risc/event-type/"
 SSF = "https://schemas.openid.net/secevent/ssf/event-type/"
 
 USER = subject(format="opaque", id="u")
 SESSION = subject(format="opaque", id="s")
 BOTH = subject(format="complex", session=SESSION, user=USER)
-EMAIL = subject(format="email", email="a@example.com")
 
 
 def token(jti, about, uri, payload=None, **changes):
     made = claims(jti=jti, sub_id=about, events={uri: payload or {}}, **changes)
     return signed(HEADER, made)
-
-
-GOOD = signed(HEADER, claims())
-FRONT = GOOD.rsplit(".", 1)[0]
-
-
-def filled(size):
-    """The first example token with a `txn` that fills its payload to so many bytes."""
-    bare = len(text(claims(txn="")))
-    return signed(HEADER, claims(txn="t" * (size - bare)))
 
 
 # RFC 7515, appendix A.1
@@ -48,8 +35,8 @@ TESTS = [
     ("OTHER_ISSUER_AND_KEY", signed(HEADER, claims(iss="https://other.example"), b"f" * 32)),
     ("AUDIENCES", signed(HEADER, claims(aud=["x", AUD]))),
     ("NO_AUDIENCE", signed(HEADER, claims(aud=None))),
-    ("LONGEST", filled(6074)),
-    ("TOO_LONG", filled(6075)),
+    ("LONGEST", signed(HEADER, filled(6074))),
+    ("TOO_LONG", signed(HEADER, filled(6075))),
     ("RFC7515", RFC7515),
     ("ESTABLISHED_BOTH", token("a", BOTH, CAEP + "session-established")),
     ("SESSIONS_REVOKED", token("b", USER, RISC + "sessions-revoked")),
@@ -61,9 +48,6 @@ TESTS = [
     ("NOTICE", token("h", subject(format="opaque", id="acme-1"), SSF + "stream-updated", {"status": "paused"})),
     ("OTHER_EVENT", token("i", USER, "https://example.com/x", {"n": 1.5})),
 ]
-
-
-
 
 EXAMPLES = [
     GOOD,
