@@ -59,38 +59,39 @@ const VERDICTS: [&str; 6] = [
     "6 refused invalid_request compact\n",
 ];
 
+const NO_COMMANDS: [&[&str]; 12] = [
+    &[],
+    &["fold"],
+    &["fold", ISS, AUD],
+    &["fold", ISS, AUD, KEY, "more"],
+    &["Fold", ISS, AUD, KEY],
+    &["replay", "more"],
+    &["fold", "", AUD, KEY],
+    &["fold", ISS, "", KEY],
+    &["fold", ISS, AUD, ""],
+    &[
+        "fold",
+        ISS,
+        AUD,
+        "MDEyMzQ1Njc4OWFiY2RlZjAxMjM0NTY3ODlhYmNkZQ",
+    ],
+    &[
+        "fold",
+        ISS,
+        AUD,
+        "MDEyMzQ1Njc4OWFiY2RlZjAxMjM0NTY3ODlhYmNkZWY=",
+    ],
+    &[
+        "fold",
+        ISS,
+        AUD,
+        "MDEyMzQ1Njc4OWFiY2RlZjAxMjM0NTY3ODlhYmNkZWZ",
+    ],
+];
+
 #[test]
 fn words_that_are_no_command_are_told_so(rt: HostRuntime) -> Result<(), Fail> {
-    let cases: [&[&str]; 12] = [
-        &[],
-        &["fold"],
-        &["fold", ISS, AUD],
-        &["fold", ISS, AUD, KEY, "more"],
-        &["Fold", ISS, AUD, KEY],
-        &["replay", "more"],
-        &["fold", "", AUD, KEY],
-        &["fold", ISS, "", KEY],
-        &["fold", ISS, AUD, ""],
-        &[
-            "fold",
-            ISS,
-            AUD,
-            "MDEyMzQ1Njc4OWFiY2RlZjAxMjM0NTY3ODlhYmNkZQ",
-        ],
-        &[
-            "fold",
-            ISS,
-            AUD,
-            "MDEyMzQ1Njc4OWFiY2RlZjAxMjM0NTY3ODlhYmNkZWY=",
-        ],
-        &[
-            "fold",
-            ISS,
-            AUD,
-            "MDEyMzQ1Njc4OWFiY2RlZjAxMjM0NTY3ODlhYmNkZWZ",
-        ],
-    ];
-    for words in cases {
+    for words in NO_COMMANDS {
         let words = texts(rt.alloc(), words)?;
         let mut input = MemSource::new(
             Bytes::of(rt.alloc(), tokens::GOOD.as_bytes())?,
@@ -117,51 +118,32 @@ fn prints(alloc: Global, input: &[&str], text: &[&str]) -> Result<bool, Memory> 
     Ok(status == 0 && sink.bytes() == wanted.as_slice())
 }
 
+const COMPACT: &str = "1 refused invalid_request compact\nrows 0 tokens 0\n";
+
+// Inputs in pieces, and what is printed of each.
+const RUNS: [(&[&str], &[&str]); 8] = [
+    (&[], &["rows 0 tokens 0\n"]),
+    (&[tokens::GOOD, "\n"], &["1 accepted\n", ROW]),
+    (&[tokens::GOOD], &["1 accepted\n", ROW]),
+    (
+        &[tokens::GOOD, "\n", tokens::GOOD, "\n", tokens::GOOD],
+        &["1 accepted\n2 seen\n3 seen\n", ROW],
+    ),
+    (&["\n\r\n", tokens::GOOD, "\r\n"], &["3 accepted\n", ROW]),
+    (&[tokens::GOOD, "\r"], &[COMPACT]),
+    (&[tokens::UNSIGNED], &[COMPACT]),
+    (
+        &[tokens::OTHER_KEY],
+        &["1 refused invalid_key mac\nrows 0 tokens 0\n"],
+    ),
+];
+
 #[test]
 fn each_line_has_its_verdict_and_the_table_follows(rt: HostRuntime) -> Result<(), Fail> {
     let alloc = rt.alloc();
-    assert!(rt; prints(alloc, &[], &["rows 0 tokens 0\n"])?);
-    assert!(rt; prints(alloc, &[tokens::GOOD, "\n"], &["1 accepted\n", ROW])?);
-    assert!(rt;
-        prints(alloc, &[tokens::GOOD], &["1 accepted\n", ROW])?,
-        "without an LF"
-    );
-    assert!(rt;
-        prints(
-            alloc,
-            &[tokens::GOOD, "\n", tokens::GOOD, "\n", tokens::GOOD],
-            &["1 accepted\n", "2 seen\n", "3 seen\n", ROW]
-        )?
-    );
-    assert!(rt;
-        prints(
-            alloc,
-            &["\n\r\n", tokens::GOOD, "\r\n"],
-            &["3 accepted\n", ROW]
-        )?,
-        "empty lines are counted"
-    );
-    assert!(rt;
-        prints(
-            alloc,
-            &[tokens::GOOD, "\r"],
-            &["1 refused invalid_request compact\n", "rows 0 tokens 0\n"]
-        )?
-    );
-    assert!(rt;
-        prints(
-            alloc,
-            &[tokens::UNSIGNED],
-            &["1 refused invalid_request compact\n", "rows 0 tokens 0\n"]
-        )?
-    );
-    assert!(rt;
-        prints(
-            alloc,
-            &[tokens::OTHER_KEY],
-            &["1 refused invalid_key mac\n", "rows 0 tokens 0\n"]
-        )?
-    );
+    for (input, text) in RUNS {
+        assert!(rt; prints(alloc, input, text)?, "{input:?}");
+    }
     Ok(())
 }
 

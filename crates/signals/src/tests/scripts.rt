@@ -90,9 +90,83 @@ fn stops(alloc: Global, line: &[&str]) -> Result<bool, Memory> {
     plays(alloc, script, &text, 2)
 }
 
-// Whether a publication of these pieces ends the script.
-fn unfit(alloc: Global, event: &str, name: &str, id: &str, subject: &str) -> Result<bool, Memory> {
-    stops(alloc, &[EVENT, event, name, id, subject, LAST])
+// A publication's events, the name of its own name, that name, and its subject.
+type Body = [&'static str; 4];
+
+const BARE: &str = "\"https://schemas.openid.net/secevent/caep/event-type/session-revoked\":{}";
+
+const OPAQUE: &str = "{\"format\":\"opaque\",\"id\":\"s-77\"}";
+
+const FIT: Body = [BARE, "publish_id", ONE, OPAQUE];
+
+// Each is the fit body but for one part.
+const UNFIT: [Body; 9] = [
+    [BARE, "id", ONE, OPAQUE],
+    [BARE, "publish_id", "first", OPAQUE],
+    ["", "publish_id", ONE, OPAQUE],
+    [
+        "\"https://schemas.openid.net/secevent/caep/event-type/session-established\":{}",
+        "publish_id",
+        ONE,
+        OPAQUE,
+    ],
+    [
+        "\"https://schemas.openid.net/secevent/caep/event-type/session-revoked\":{\"reason_admin\":\"x\"}",
+        "publish_id",
+        ONE,
+        OPAQUE,
+    ],
+    [
+        "\"https://example.com/x\":{},\"https://schemas.openid.net/secevent/caep/event-type/session-revoked\":{}",
+        "publish_id",
+        ONE,
+        OPAQUE,
+    ],
+    [
+        BARE,
+        "publish_id",
+        ONE,
+        "{\"email\":\"a@example.com\",\"format\":\"email\"}",
+    ],
+    [
+        BARE,
+        "publish_id",
+        ONE,
+        "{\"format\":\"opaque\",\"id\":\"\"}",
+    ],
+    [
+        BARE,
+        "publish_id",
+        ONE,
+        "{\"format\":\"opaque\",\"id\":\"s-77\",\"x\":1}",
+    ],
+];
+
+// Whether a publication of this body ends the script.
+fn refuses(alloc: Global, body: Body) -> Result<bool, Memory> {
+    let [events, name, id, subject] = body;
+    let line = [
+        "publish {\"events\":{",
+        events,
+        "},\"",
+        name,
+        "\":\"",
+        id,
+        "\",\"sub_id\":",
+        subject,
+        "}\n",
+    ];
+    stops(alloc, &line)
+}
+
+#[test]
+fn a_publication_that_is_unfit_ends_the_script(rt: HostRuntime) -> Result<(), Fail> {
+    let alloc = rt.alloc();
+    assert!(rt; !refuses(alloc, FIT)?);
+    for body in UNFIT {
+        assert!(rt; refuses(alloc, body)?, "{body:?}");
+    }
+    Ok(())
 }
 
 // Whether a second publication of this name ends the script, where the first has the name of `ONE`.
@@ -140,20 +214,6 @@ fn a_line_that_is_refused_ends_the_script(rt: HostRuntime) -> Result<(), Fail> {
     for line in REFUSED {
         assert!(rt; stops(alloc, &[line, "\n", CREATE])?, "{line}");
     }
-    let revoked = "session-revoked";
-    let filled = "\",\"sub_id\":{\"format\":\"opaque\",\"id\":\"s-77";
-    let email = "\",\"sub_id\":{\"format\":\"email\",\"email\":\"a@b";
-    assert!(rt;
-        unfit(alloc, revoked, "\":{}},\"id\":\"", ONE, filled)?,
-        "no name"
-    );
-    assert!(rt; unfit(alloc, revoked, NAME, "first", filled)?, "no UUID");
-    assert!(rt;
-        unfit(alloc, "session-established", NAME, ONE, filled)?,
-        "event"
-    );
-    assert!(rt; unfit(alloc, revoked, NAME, ONE, email)?, "format");
-    assert!(rt; unfit(alloc, revoked, NAME, ONE, SUBJECT)?, "empty subject");
     assert!(rt; used(alloc, ONE)?);
     assert!(rt;
         used(alloc, "11111111111111111111111111111111")?,
@@ -171,6 +231,44 @@ fn a_line_that_is_refused_ends_the_script(rt: HostRuntime) -> Result<(), Fail> {
         ],
     )?;
     assert!(rt; plays(alloc, last, &text, 0)?, "the greatest number");
+    Ok(())
+}
+
+// Whether these lines behind a stream print this text, nothing is heard, and nothing owed.
+fn leaves_nothing(alloc: Global, lines: &Bytes, printed: &str) -> Result<bool, Memory> {
+    let mut script = joined(alloc, &[CREATE])?;
+    script.add(lines.as_slice())?;
+    let text = joined(
+        alloc,
+        &[
+            "1 made acme-1\n",
+            printed,
+            "rows 0 tokens 0\nowed acme-1 0\n",
+        ],
+    )?;
+    plays(alloc, script, &text, 0)
+}
+
+#[test]
+fn a_stream_of_another_client_is_not_found(rt: HostRuntime) -> Result<(), Fail> {
+    let alloc = rt.alloc();
+    let poll = joined(alloc, &["poll zeta acme-1 32\n"])?;
+    assert!(rt; leaves_nothing(alloc, &poll, "2 not-found\n")?);
+    Ok(())
+}
+
+// The payload of a token about an identifier of so many bytes has 6,001; Python's `len` of the text says so.
+const LONG_ID_BYTES: u64 = 5_762;
+
+#[test]
+fn a_payload_of_more_than_6000_bytes_is_long(rt: HostRuntime) -> Result<(), Fail> {
+    let alloc = rt.alloc();
+    let mut id = String::new(alloc);
+    for _ in 0..LONG_ID_BYTES {
+        id.push('s')?;
+    }
+    let lines = publication(alloc, ONE, id.as_str())?;
+    assert!(rt; leaves_nothing(alloc, &lines, "2 long 6001\n")?);
     Ok(())
 }
 
