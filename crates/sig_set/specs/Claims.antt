@@ -41,7 +41,7 @@ audience_of (string text) = Some (text ∷ [])
 audience_of (array ds) = texts_of ds
 audience_of (object ms) = None
 
--- ---- the events, in byte order of their URIs
+-- ---- the events, in the order of the members, which is byte order of their URIs in a value that was read
 
 -- an event before others
 abbrev pub event_before : Result Event EventFault → Option (List Event) → Option (List Event)
@@ -63,8 +63,8 @@ EventsAre [] (member uri v ms) s = ⊥
 EventsAre (e ∷ es) no_members s = ⊥
 EventsAre (e ∷ es) (member uri v ms) s = IsEvent e uri v s × EventsAre es ms s
 
--- the claims are what the payload says: each of its members, and neither `exp` nor `sub` (OpenID Shared Signals
--- Framework 1.0, section 4; RFC 8417, section 2.2)
+-- the claims are what the payload says by these members, and it has neither `exp` nor `sub`; `txn`, `toe` and members
+-- that are not known are passed over (OpenID Shared Signals Framework 1.0, section 4; RFC 8417, section 2.2)
 pub record ClaimsAre (claims : Claims) (v : Data) : Type 0 where
   pub iss : text_member (codes "iss") v ≡ Some claims.iss
   pub aud : option_and_then audience_of (member_of (codes "aud") v) ≡ Some claims.aud

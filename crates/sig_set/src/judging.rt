@@ -16,8 +16,9 @@ use sig_json::{Text, Value, text_of};
 use sig_jws::Key;
 use std::alloc::Global;
 
-/// The claims of a token, or the first check that fails (RFC 8417, section 2; RFC 7515, section 5.2; the codes are those
-/// of RFC 8935, section 2.4).
+/// The claims of a token, or the first check that fails (RFC 8417, section 2; RFC 7515, section 5.2; for `exp`, `sub`
+/// and `sub_id` OpenID Shared Signals Framework 1.0, section 4, and for `sub_id` RFC 9493; the codes are those of RFC
+/// 8935, section 2.4).
 ///
 /// `principal` is the issuer for whom the bearer may speak, none where the bearer names nobody. `named` is the identifier
 /// under which a poll listed the token. The checks, in their order, with the spot of each:
@@ -26,16 +27,17 @@ use std::alloc::Global;
 /// 2. `InvalidRequest`: the text has at most 8,192 bytes (`Length`) and the compact form (`Compact`); the header is an
 ///    object (`Header`) whose `typ` is `secevent+jwt`, with or without `application/` and in any ASCII case (`Typ`), and
 ///    which has no `crit` (`Crit`); the payload is an object (`Payload`) whose `iss` is a text (`Iss`).
-/// 3. `InvalidIssuer`: the issuer is configured (`Iss`).
+/// 3. `InvalidIssuer`: the issuer is configured (`Iss`); of two with one name the first counts.
 /// 4. `AccessDenied`: it is the principal (`Iss`).
-/// 5. `InvalidKey`: `alg` is `HS256` (`Alg`); some key of the issuer may have signed it by the header's `kid` (`Kid`); one
-///    of these did (`Mac`).
+/// 5. `InvalidKey`: `alg` is `HS256` (`Alg`; RFC 7518, section 3.2); some key of the issuer fits the header's `kid`
+///    (`Kid`); one of these signed it (`Mac`). Without `kid` every key fits. A key without a name fits every `kid` that
+///    is a text, one with a name only that text; a `kid` that is no text fits none.
 /// 6. `InvalidAudience`: `aud` is the audience, or a list of texts that holds it (`Aud`).
 /// 7. `InvalidRequest`: `jti` is a text that isn't empty, and the name where one is given (`Jti`); `iat` is a whole number
 ///    from 0 to 2^62 (`Iat`); there is neither `exp` (`Exp`) nor `sub` (`Sub`); `sub_id` is a subject (`SubId`); `events`
 ///    has a member (`Events`), and each, in byte order of its URI, is an event about the subject (`Event`).
 ///
-/// Other members are passed over. `Memory` is want of memory.
+/// A `crit`, `exp` or `sub` of null is there too. Other members are passed over. `Memory` is want of memory.
 pub fn judge(
     alloc: Global,
     trust: &Trust,
@@ -95,7 +97,7 @@ fn issuer_in<'a>(issuers: &'a [Issuer], payload: &Value) -> Option<&'a Issuer>
     }
 }
 
-/// The issuer of this name.
+/// The first issuer of this name.
 fn issuer_named<'a>(iss: &str, issuers: &'a [Issuer]) -> Option<&'a Issuer>
     ensures { option_map (λ issuer. issuer.now) result ≡ issuer_named iss.now issuers.now }
 {

@@ -14,8 +14,9 @@ pub fn claims_of_proper_parts_are_proper()
     ensures { AreProperByParts }
 {}
 
-/// What is written of proper claims under a key is judged valid with these claims by everyone whom the claims are for and
-/// who trusts that issuer and key, under the claims' identifier or no name.
+/// What is written of proper claims, under a key with no name or one in UTF-8, is judged valid with these claims, where
+/// the bearer speaks for the claims' issuer, the claims are for the trust's own name, the first of the trust's issuers
+/// with the name of the claims' issuer has that key, and the token goes under the claims' identifier or no name.
 pub fn written_claims_are_judged_valid()
     ensures { AreJudgedValid }
 {}

@@ -1,6 +1,7 @@
 //! Judging, reading and writing security event tokens (RFC 8417).
 //!
-//!     text -> length, compact form, header, payload -> issuer, key, audience -> subject, events -> claims
+//!     bearer -> length, compact form, header, payload -> issuer, key, audience
+//!         -> identifier, time, no end, no second subject -> subject, events -> claims
 //!
 //! It stands on `sig_jws` for the compact form and the MAC, on `sig_subject` and `sig_event` for what a token says, and on
 //! `sig_json` for values. The judgement is a list of checks over the whole text of which the first that fails decides

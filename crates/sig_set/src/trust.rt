@@ -18,7 +18,7 @@ pub struct Issuer {
 pub struct Trust {
     /// The receiver's own name, which a token's `aud` has to have.
     pub audience: Text,
-    /// The issuers whose tokens it takes.
+    /// The issuers whose tokens it takes; of those with one name the first counts.
     pub issuers: Items<Issuer>,
 }
 

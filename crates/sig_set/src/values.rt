@@ -1,4 +1,4 @@
-//! Values of bytes, and tests of members that several modules use.
+//! Values of bytes, and tests and readings of members.
 
 ghost use Rattle.std.specs.Prelude.{◌≡◌, IfOk, option_map, unwrap_or, []};
 ghost use Rattle.serde_json.specs.View.{view};

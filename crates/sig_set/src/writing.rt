@@ -54,8 +54,12 @@ impl From<Memory> for WriteFault {
     }
 }
 
-/// The payload of a token with these claims: the text of a JSON object with no space and its members in byte order
-/// (RFC 8417, section 2.2).
+/// The payload of a token with these claims: the text of a JSON object with no space outside of strings and its members
+/// in byte order (RFC 8417, section 2.2).
+///
+/// Of claims made by hand: a subject or an event's payload in which a fraction stands (`sig_json::has_fraction`) is
+/// written as null, of two events with one URI only the later is written, and an audience of nobody is written as an
+/// empty list, which no judgement takes.
 pub fn payload_text(alloc: Global, claims: &Claims) -> Result<Bytes, Memory>
     ensures { IfOk result (λ bytes. bytes ≡ payload_text_of claims.now) }
 {
@@ -64,7 +68,7 @@ pub fn payload_text(alloc: Global, claims: &Claims) -> Result<Bytes, Memory>
 }
 
 /// The signed text of these claims, however long it is: under the key by HS256 (RFC 7518, section 3.2), in compact form
-/// (RFC 7515, section 7.1). Its header names the key where the key has a name.
+/// (RFC 7515, section 7.1). Its header names the key where the key has a name; its payload is that of `payload_text`.
 pub fn signed_claims(alloc: Global, claims: &Claims, key: &Key) -> Result<Bytes, Memory>
     ensures { IfOk result (λ bytes. bytes ≡ token_text claims.now key.now) }
 {
@@ -78,7 +82,7 @@ pub fn signed_claims(alloc: Global, claims: &Claims, key: &Key) -> Result<Bytes,
     )
 }
 
-/// The token with these claims: their signed text.
+/// The token with these claims: their signed text, with the payload of `payload_text`.
 ///
 /// `TooLong` comes exactly where the token has more than 8,192 bytes, and says how many it has.
 pub fn write(alloc: Global, claims: &Claims, key: &Key) -> Result<Bytes, WriteFault>
