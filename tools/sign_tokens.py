@@ -26,6 +26,11 @@ def text(value):
     return json.dumps(value, separators=(",", ":"), sort_keys=True, ensure_ascii=False).encode()
 
 
+def as_it_stands(value):
+    """The text of a value with its members in the order in which they were put."""
+    return json.dumps(value, separators=(",", ":"), ensure_ascii=False).encode()
+
+
 def signed(header, payload, key=KEY):
     header = header if isinstance(header, bytes) else text(header)
     payload = payload if isinstance(payload, bytes) else text(payload)
@@ -79,6 +84,16 @@ RISC = "https://schemas.openid.net/secevent/risc/event-type/"
 EMAIL = subject(format="email", email="a@example.com")
 CHANGED = event(RISC + "identifier-changed", **{"new-value": "b@example.com"})
 
+# Claims whose members, and whose events, stand in reverse byte order.
+REVERSED = {
+    "sub_id": {"id": "s-77", "format": "opaque"},
+    "jti": STORE + ".acme-1.1",
+    "iss": ISS,
+    "iat": 1700000000,
+    "events": {RISC + "account-disabled": {"reason": "hijacking"}, REVOKED: {}},
+    "aud": AUD,
+}
+
 GOOD = signed(HEADER, claims())
 FRONT = GOOD.rsplit(".", 1)[0]
 HEAD_MAC = part(hmac.new(KEY, FRONT.split(".")[0].encode(), hashlib.sha256).digest())
@@ -96,6 +111,7 @@ TABLE = [
     ("IDENTIFIER_CHANGED", signed(HEADER, claims(sub_id=EMAIL, events=CHANGED)), "accepted"),
     ("UNREAD_EVENT", signed(HEADER, claims(events=event("https://example.com/x", n=1.5))), "accepted"),
     ("FURTHER_MEMBERS", signed(header(x=1), claims(txn="t", toe=1.5)), "accepted"),
+    ("REVERSED", signed(HEADER, as_it_stands(REVERSED)), "accepted"),
     ("LONGEST", signed(HEADER, filled(6074)), "accepted"),
     ("TOO_LONG", signed(HEADER, filled(6075)), "invalid_request length"),
     ("UNSIGNED", part(text(header(alg="none"))) + "." + part(text(claims())) + ".", "invalid_request compact"),

@@ -4,8 +4,10 @@ mod tokens;
 mod written;
 
 use crate::{Claims, ClaimsFault, Issuer, Refusal, Trust, claims_of, judge};
+use sig_event::Event;
 use sig_json::{Bytes, Items, Memory, Text};
 use sig_jws::Key;
+use sig_subject::{Plain, Simple, Subject};
 use std::alloc::Global;
 use std::test::Fail;
 
@@ -18,6 +20,10 @@ const ISSUER: &str = "https://idp.example";
 const AUDIENCE: &str = "https://rp.example";
 
 const JTI: &str = "6ba7b810-9dad-11d1-80b4-00c04fd430c8.acme-1.1";
+
+const REVOKED: &str = "https://schemas.openid.net/secevent/caep/event-type/session-revoked";
+
+const DISABLED: &str = "https://schemas.openid.net/secevent/risc/event-type/account-disabled";
 
 // A key with a name, or with none where the name is empty.
 fn key(alloc: Global, name: &str, bytes: &[u8]) -> Result<Key, Memory> {
@@ -209,12 +215,34 @@ fn the_named_key_is_tried_and_no_other(rt: HostRuntime) -> Result<(), Fail> {
     Ok(())
 }
 
+// The claims of a token that is valid.
+fn valid_claims(alloc: Global, token: &str) -> Result<Claims, Refusal> {
+    let trust = trust_of_one(alloc, "")?;
+    let principal = Text::of(alloc, ISSUER)?;
+    judge(alloc, &trust, Some(&principal), None, token.as_bytes())
+}
+
+// Whether the subject is one of the format `opaque` with this name.
+fn is_opaque(subject: &Subject, name: &str) -> bool {
+    match subject {
+        Subject::Simple(Simple::Plain(Plain::Opaque { id })) => id.as_str() == name,
+        _ => false,
+    }
+}
+
+// Whether these are the events' URIs, in this order.
+fn have_uris(events: &[Event], uris: &[&str]) -> bool {
+    for (event, uri) in events.iter().zip(uris) {
+        if event.uri() != *uri {
+            return false;
+        }
+    }
+    events.len() == uris.len()
+}
+
 #[test]
 fn claims_are_those_of_the_payload(rt: HostRuntime) -> Result<(), Fail> {
-    let trust = trust_of_one(rt.alloc(), "")?;
-    let principal = Text::of(rt.alloc(), ISSUER)?;
-    let token = tokens::LISTED_AUDIENCE.as_bytes();
-    let claims = judge(rt.alloc(), &trust, Some(&principal), None, token)?;
+    let claims = valid_claims(rt.alloc(), tokens::LISTED_AUDIENCE)?;
     assert_eq!(rt; claims.iss.as_str(), ISSUER);
     assert_eq!(rt; claims.jti.as_str(), JTI);
     assert_eq!(rt; claims.iat, 1_700_000_000);
@@ -227,14 +255,18 @@ fn claims_are_those_of_the_payload(rt: HostRuntime) -> Result<(), Fail> {
     {
         assert_eq!(rt; text.as_str(), wanted);
     }
-    assert_eq!(rt; claims.events.as_slice().len(), 1);
-    for event in claims.events.as_slice() {
-        assert_eq!(rt;
-            event.uri(),
-            "https://schemas.openid.net/secevent/caep/event-type/session-revoked"
-        );
-    }
+    assert!(rt; is_opaque(&claims.subject, "s-77"));
+    assert!(rt; have_uris(claims.events.as_slice(), &[REVOKED]));
+    let token = tokens::LISTED_AUDIENCE.as_bytes();
     assert!(rt; claims_of(rt.alloc(), token)? == claims);
+    Ok(())
+}
+
+#[test]
+fn members_of_a_payload_stand_in_any_order(rt: HostRuntime) -> Result<(), Fail> {
+    let claims = valid_claims(rt.alloc(), tokens::REVERSED)?;
+    assert!(rt; is_opaque(&claims.subject, "s-77"));
+    assert!(rt; have_uris(claims.events.as_slice(), &[REVOKED, DISABLED]));
     Ok(())
 }
 
