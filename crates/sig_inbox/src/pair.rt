@@ -14,7 +14,7 @@ pub struct Pair {
 }
 
 impl Pair {
-    /// An equal pair.
+    /// An equal pair. Want of memory is its only error.
     pub fn copy(&self, alloc: Global) -> Result<Pair, Memory>
         ensures { IfOk result (λ p. p ≡ self.now) }
     {

@@ -87,13 +87,13 @@ impl Seen {
         self.pairs.len() as u64
     }
 
-    /// The same pairs in the same order.
-    pub fn copy(&self, alloc: Global) -> Result<Seen, Memory>
+    /// The same pairs in the same order. Want of memory is its only error.
+    pub fn copy(&self) -> Result<Seen, Memory>
         ensures { IfOk result (λ s. s ≡ self.now) }
     {
-        let mut copy = Seen::new(alloc);
+        let mut copy = Seen::new(self.alloc);
         for pair in self.pairs.as_slice() {
-            copy.add(pair.copy(alloc)?)?;
+            copy.add(pair.copy(self.alloc)?)?;
         }
         Ok(copy)
     }

@@ -63,7 +63,7 @@ fn a_copy_has_the_same_pairs_in_order(rt: HostRuntime) -> Result<(), Fail> {
     let mut seen = Seen::new(alloc);
     let _first = added(alloc, &mut seen, "a", "1")?;
     let _second = added(alloc, &mut seen, "a", "2")?;
-    let copy = seen.copy(alloc)?;
+    let copy = seen.copy()?;
     assert!(rt; copy == seen);
     let mut other = Seen::new(alloc);
     let _second = added(alloc, &mut other, "a", "2")?;
