@@ -7,8 +7,6 @@ use Rattle.std.proofs.lemmas.List.{map-append}
 use Rattle.std.proofs.lemmas.List.Folds.{list_any-append}
 use Rattle.std.proofs.lemmas.Simd.{map-map}
 use Rattle.sig_json.specs.Checks.{or_else}
-use Rattle.sig_caep.specs.declared.kind.CaepKind.{CaepKind}
-use Rattle.sig_caep.specs.declared.kind.CaepKind.TheVariants as caep
 use Rattle.sig_subject.specs.declared.subject.Subject.{Subject}
 use Rattle.sig_subject.specs.Matching.{is_covering, is_identical}
 use Rattle.sig_subject.proofs.Identity.{decides_identity}
@@ -17,10 +15,10 @@ use Rattle.sig_event.specs.declared.event.Event.TheVariants as event
 use Rattle.sig_sessions.specs.declared.row.Row.{Row}
 use Rattle.sig_sessions.specs.declared.state.State.{State}
 use Rattle.sig_sessions.specs.declared.update.Update.{Update}
-use Rattle.sig_sessions.specs.Effects.{has_effect, state_after, level_by, level_after}
+use Rattle.sig_sessions.specs.Effects.{has_effect, state_after, level_after, told}
 use Rattle.sig_sessions.specs.Table.{state_of, with_state, unseen, has_row, with_row, changed, changed_where_covered, after_event, after_events}
 use Rattle.sig_sessions.specs.Changes.{updated_by}
-use Rattle.sig_sessions.specs.Walks.{told_by, told, last_told, states_after, changed_by_all, changed_by_all_where_covered}
+use Rattle.sig_sessions.specs.Walks.{last_told, states_after, changed_by_all, changed_by_all_where_covered}
 
 -- ---- events without effect
 
@@ -56,22 +54,6 @@ unchanged_where s e r h =
 
 -- ---- one row
 
-level_told_by : (k : CaepKind) (level : Option (List ℕ)) → level_by k level ≡ or_else (told_by k) level
-level_told_by caep.SessionRevoked level = refl
-level_told_by (caep.TokenClaimsChange claims) level = refl
-level_told_by (caep.CredentialChange credential change) level = refl
-level_told_by (caep.AssuranceLevelChange namespace current direction) level = refl
-level_told_by (caep.DeviceComplianceChange before after) level = refl
-level_told_by (caep.SessionEstablished acr amr ext_id fp_ua) level = refl
-level_told_by (caep.SessionPresented ext_id fp_ua) level = refl
-
-level_told : (e : Event) (level : Option (List ℕ)) → level_after e level ≡ or_else (told e) level
-level_told (event.Caep e) level = level_told_by e.kind level
-level_told (event.Risc e) level = refl
-level_told (event.Verification state) level = refl
-level_told (event.StreamUpdated status reason) level = refl
-level_told (event.Other uri) level = refl
-
 pub or_else_joins : (a b c : Option (List ℕ)) → or_else (or_else a b) c ≡ or_else a (or_else b c)
 or_else_joins None b c = refl
 or_else_joins (Some x) b c = refl
@@ -79,7 +61,7 @@ or_else_joins (Some x) b c = refl
 changed_twice : (e : Event) (es : List Event) (r : Row) → changed_by_all es (changed e r) ≡ changed_by_all (e ∷ es) r
 changed_twice e es r =
     ap (λ l. with_state (states_after es (state_after e (state_of r))) l r)
-    (ap (or_else (last_told es)) (level_told e r.level) ∙ sym (or_else_joins (last_told es) (told e) r.level))
+    (sym (or_else_joins (last_told es) (told e) r.level))
 
 -- changes keep the subject
 same_subject : (s : Subject) (e : Event) (r : Row) → (changed_where_covered s e r).subject ≡ r.subject

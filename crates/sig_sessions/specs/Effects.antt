@@ -1,5 +1,6 @@
 -- What an event makes of a row of the session table (this product's own).
-use Rattle.std.specs.Prelude.{ℕ, List, Bool, true, false, Option, Some}
+use Rattle.std.specs.Prelude.{ℕ, List, Bool, true, false, Option, Some, None}
+use Rattle.sig_json.specs.Checks.{or_else}
 use Rattle.sig_caep.specs.declared.change.Change.{Change}
 use Rattle.sig_caep.specs.declared.change.Change.TheVariants.{Create, Revoke, Update, Delete}
 use Rattle.sig_caep.specs.declared.compliance.Compliance.{Compliance}
@@ -94,22 +95,27 @@ state_after (event.Verification state) s = s
 state_after (event.StreamUpdated status reason) s = s
 state_after (event.Other uri) s = s
 
--- the level that an event of CAEP tells (CAEP 1.0, section 3.4), else the one that stood
-abbrev pub level_by : CaepKind → Option (List ℕ) → Option (List ℕ)
-level_by caep.SessionRevoked level = level
-level_by (caep.TokenClaimsChange claims) level = level
-level_by (caep.CredentialChange credential change) level = level
-level_by (caep.AssuranceLevelChange namespace current direction) level = Some current
-level_by (caep.DeviceComplianceChange before after) level = level
-level_by (caep.SessionEstablished acr amr ext_id fp_ua) level = level
-level_by (caep.SessionPresented ext_id fp_ua) level = level
+-- the level that an event of CAEP tells (CAEP 1.0, section 3.4)
+abbrev pub told_by : CaepKind → Option (List ℕ)
+told_by caep.SessionRevoked = None
+told_by (caep.TokenClaimsChange claims) = None
+told_by (caep.CredentialChange credential change) = None
+told_by (caep.AssuranceLevelChange namespace current direction) = Some current
+told_by (caep.DeviceComplianceChange before after) = None
+told_by (caep.SessionEstablished acr amr ext_id fp_ua) = None
+told_by (caep.SessionPresented ext_id fp_ua) = None
 
+-- the level that an event tells
+abbrev pub told : Event → Option (List ℕ)
+told (event.Caep e) = told_by e.kind
+told (event.Risc e) = None
+told (event.Verification state) = None
+told (event.StreamUpdated status reason) = None
+told (event.Other uri) = None
+
+-- the level that an event tells, else the one that stood
 abbrev pub level_after : Event → Option (List ℕ) → Option (List ℕ)
-level_after (event.Caep e) level = level_by e.kind level
-level_after (event.Risc e) level = level
-level_after (event.Verification state) level = level
-level_after (event.StreamUpdated status reason) level = level
-level_after (event.Other uri) level = level
+level_after e level = or_else (told e) level
 
 -- whether an event is one that has an effect
 abbrev pub has_effect : Event → Bool

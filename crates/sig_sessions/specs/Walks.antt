@@ -1,34 +1,14 @@
 -- What all events of a token make of one row.
-use Rattle.std.specs.Prelude.{ℕ, List, [], ◌∷◌, ◌++◌, Option, Some, None, if◌then◌else◌}
-use Rattle.sig_caep.specs.declared.kind.CaepKind.{CaepKind}
-use Rattle.sig_caep.specs.declared.kind.CaepKind.TheVariants as caep
+use Rattle.std.specs.Prelude.{ℕ, List, [], ◌∷◌, ◌++◌, Option, None, if◌then◌else◌}
 use Rattle.sig_json.specs.Checks.{or_else}
 use Rattle.sig_subject.specs.declared.subject.Subject.{Subject}
 use Rattle.sig_subject.specs.Matching.{is_covering}
 use Rattle.sig_event.specs.declared.event.Event.{Event}
-use Rattle.sig_event.specs.declared.event.Event.TheVariants as event
 use Rattle.sig_sessions.specs.declared.row.Row.{Row}
 use Rattle.sig_sessions.specs.declared.state.State.{State}
 use Rattle.sig_sessions.specs.declared.update.Update.{Update}
-use Rattle.sig_sessions.specs.Effects.{state_after}
+use Rattle.sig_sessions.specs.Effects.{state_after, told}
 use Rattle.sig_sessions.specs.Table.{state_of, with_state}
-
--- the level that an event of CAEP tells
-abbrev pub told_by : CaepKind → Option (List ℕ)
-told_by caep.SessionRevoked = None
-told_by (caep.TokenClaimsChange claims) = None
-told_by (caep.CredentialChange credential change) = None
-told_by (caep.AssuranceLevelChange namespace current direction) = Some current
-told_by (caep.DeviceComplianceChange before after) = None
-told_by (caep.SessionEstablished acr amr ext_id fp_ua) = None
-told_by (caep.SessionPresented ext_id fp_ua) = None
-
-abbrev pub told : Event → Option (List ℕ)
-told (event.Caep e) = told_by e.kind
-told (event.Risc e) = None
-told (event.Verification state) = None
-told (event.StreamUpdated status reason) = None
-told (event.Other uri) = None
 
 -- the last level that the events tell
 abbrev pub last_told : List Event → Option (List ℕ)

@@ -66,7 +66,7 @@ pub(crate) fn last_told(events: &[Event]) -> Option<&Text>
 
 // The level that the event tells (CAEP 1.0, section 3.4).
 fn told(event: &Event) -> Option<&Text>
-    ensures { option_copied result ≡ walk.told event.now }
+    ensures { option_copied result ≡ spec.told event.now }
 {
     match event {
         Event::Caep(event) => match &event.kind {
