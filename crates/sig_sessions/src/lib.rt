@@ -5,7 +5,8 @@
 //! (`specs/Effects`); a verdict on a subject is drawn from the rows that cover it (`specs/Verdicts`).
 //!
 //! Promised: a change that was made ready is taken in without memory, and leaves the rows as the table of effects says; a
-//! verdict is the defined one. Left out: that the effects and verdicts are wise. So far every row is looked at.
+//! verdict is the defined one. Left out: that the effects and verdicts are wise. So far every row is looked at: a verdict
+//! goes over the rows once for the subject's own row, and once for each kind of mark that it looks for.
 #![tactic(auto)]
 
 mod changing;

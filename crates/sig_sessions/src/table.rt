@@ -41,7 +41,8 @@ impl Table {
         }
     }
 
-    /// Makes ready what the claims make of the rows. The rows stay as they are.
+    /// Makes ready what the claims make of the rows. The rows stay as they are; room for one more may be kept.
+    /// Want of memory is its only error.
     pub fn prepare(&mut self, claims: &Claims) -> Result<Change, Memory>
         ensures same { self.new.rows ≡ self.old.rows }
         ensures ready { IfOk result (λ change. IsReady self.new change) }
@@ -80,7 +81,8 @@ impl Table {
         self.rows.as_slice()
     }
 
-    /// Copies of the rows from a place on, counted from 0, at most so many.
+    /// Copies of the rows from a place on, counted from 0, at most so many; a place past the end gives no rows.
+    /// Want of memory is its only error.
     pub fn rows(&self, from: u64, most: u64) -> Result<Items<Row>, Memory>
         ensures { IfOk result (λ rows. rows ≡ take most (drop from self.now.rows)) }
     {
@@ -88,13 +90,13 @@ impl Table {
         Ok(Items::of(copy_rows(self.alloc, page)?))
     }
 
-    /// A table with the same rows.
-    pub fn copy(&self, alloc: Global) -> Result<Table, Memory>
+    /// A table with the same rows. Want of memory is its only error.
+    pub fn copy(&self) -> Result<Table, Memory>
         ensures { IfOk result (λ t. t.rows ≡ self.now.rows) }
     {
         Ok(Table {
-            alloc,
-            rows: copy_rows(alloc, self.rows.as_slice())?,
+            alloc: self.alloc,
+            rows: copy_rows(self.alloc, self.rows.as_slice())?,
         })
     }
 }

@@ -222,7 +222,7 @@ fn a_page_past_the_end_is_empty(rt: HostRuntime) -> Result<(), Fail> {
 fn a_copy_has_the_same_rows(rt: HostRuntime) -> Result<(), Fail> {
     let alloc = rt.alloc();
     let table = revoked_later(alloc)?;
-    let copy = table.copy(alloc)?;
+    let copy = table.copy()?;
     assert!(rt; copy.as_slice() == table.as_slice());
     Ok(())
 }
