@@ -21,20 +21,37 @@ fn user(alloc: Global, id: &str) -> Result<Subject, Memory> {
     Ok(Subject::Simple(opaque(alloc, id)?))
 }
 
-// A session of a user.
-fn session(alloc: Global, id: &str, user: &str) -> Result<Subject, Memory> {
-    let mut members = Vec::new(alloc);
-    members.push(Member {
-        name: Text::of(alloc, "session")?,
+// A part of this name, of an opaque identifier.
+fn part(alloc: Global, name: &str, id: &str) -> Result<Member, Memory> {
+    Ok(Member {
+        name: Text::of(alloc, name)?,
         simple: opaque(alloc, id)?,
-    })?;
-    members.push(Member {
-        name: Text::of(alloc, "user")?,
-        simple: opaque(alloc, user)?,
-    })?;
+    })
+}
+
+// A subject of one part.
+fn whole(alloc: Global, only: Member) -> Result<Subject, Memory> {
+    let mut members = Vec::new(alloc);
+    members.push(only)?;
     Ok(Subject::Complex {
         members: Items::of(members),
     })
+}
+
+// A subject of two parts.
+fn joint(alloc: Global, first: Member, second: Member) -> Result<Subject, Memory> {
+    let mut members = Vec::new(alloc);
+    members.push(first)?;
+    members.push(second)?;
+    Ok(Subject::Complex {
+        members: Items::of(members),
+    })
+}
+
+// A session of a user.
+fn session(alloc: Global, id: &str, user: &str) -> Result<Subject, Memory> {
+    let first = part(alloc, "session", id)?;
+    joint(alloc, first, part(alloc, "user", user)?)
 }
 
 fn caep(kind: CaepKind) -> Event {

@@ -6,7 +6,7 @@ use super::{
 };
 use crate::Table;
 use sig_caep::{CaepKind, Change, Compliance};
-use sig_event::Event;
+use sig_event::{Event, Status};
 use sig_json::{Items, Memory, Text, copy_optional};
 use sig_risc::RiscEvent;
 use std::alloc::Global;
@@ -226,20 +226,31 @@ fn events_of_opting(rt: HostRuntime) -> Result<(), Fail> {
     Ok(())
 }
 
-// How many rows these events leave.
-fn rows_after(alloc: Global, events: Items<Event>) -> Result<usize, Memory> {
+// Whether the event makes no row.
+fn makes_no_row(alloc: Global, event: Event) -> Result<bool, Memory> {
     let mut table = Table::new(alloc);
-    take(alloc, &mut table, user(alloc, "u")?, events)?;
-    Ok(table.as_slice().len())
+    take(alloc, &mut table, user(alloc, "u")?, one(alloc, event)?)?;
+    Ok(table.as_slice().is_empty())
 }
 
 #[test]
 fn a_notice_of_the_stream_makes_no_row(rt: HostRuntime) -> Result<(), Fail> {
     let alloc = rt.alloc();
+    assert!(rt; makes_no_row(alloc, Event::Verification { state: None })?);
+    let updated = Event::StreamUpdated {
+        status: Status::Paused,
+        reason: None,
+    };
+    assert!(rt; makes_no_row(alloc, updated)?);
+    Ok(())
+}
+
+#[test]
+fn an_event_that_is_not_read_makes_no_row(rt: HostRuntime) -> Result<(), Fail> {
+    let alloc = rt.alloc();
     let unread = Event::Other {
         uri: Text::of(alloc, "https://example.com/x")?,
     };
-    let events = two(alloc, Event::Verification { state: None }, unread)?;
-    assert_eq!(rt; rows_after(alloc, events)?, 0);
+    assert!(rt; makes_no_row(alloc, unread)?);
     Ok(())
 }

@@ -1,7 +1,8 @@
 //! Verdicts, subjects that cover others, and pages of rows.
 
 use super::{
-    LIVE, REVOKED, compromised, device, established, knows, one, session, take, two, user,
+    LIVE, REVOKED, compromised, device, established, joint, knows, one, part, session, take, two,
+    user, whole,
 };
 use crate::{Table, Verdict};
 use sig_caep::Compliance;
@@ -94,14 +95,15 @@ fn nothing_is_known_of_a_stranger(rt: HostRuntime) -> Result<(), Fail> {
     Ok(())
 }
 
-// The verdict on a session with an enabled account and a compliant device, of whose user this is told then.
+// The verdict on a session of whose user this is told first, and then of itself an enabled account and a compliant device.
+// So the user's event leaves the session's own row as it is.
 fn verdict_after(alloc: Global, event: Event) -> Result<Verdict, Memory> {
     let mut table = Table::new(alloc);
+    let first = one(alloc, event)?;
+    take(alloc, &mut table, user(alloc, "u")?, first)?;
     let enabled = Event::Risc(RiscEvent::AccountEnabled);
-    let first = two(alloc, enabled, device(Compliance::Compliant))?;
-    take(alloc, &mut table, session(alloc, "s", "u")?, first)?;
-    let second = one(alloc, event)?;
-    take(alloc, &mut table, user(alloc, "u")?, second)?;
+    let second = two(alloc, enabled, device(Compliance::Compliant))?;
+    take(alloc, &mut table, session(alloc, "s", "u")?, second)?;
     let own = session(alloc, "s", "u")?;
     Ok(table.verdict(&own))
 }
@@ -115,7 +117,7 @@ fn the_greatest_account_decides(rt: HostRuntime) -> Result<(), Fail> {
         says(
             verdict,
             true,
-            ["revoked", "disabled", "compliant"],
+            ["unseen", "disabled", "compliant"],
             false,
             false
         )
@@ -125,7 +127,7 @@ fn the_greatest_account_decides(rt: HostRuntime) -> Result<(), Fail> {
         says(
             verdict,
             true,
-            ["revoked", "purged", "compliant"],
+            ["unseen", "purged", "compliant"],
             false,
             false
         )
@@ -137,7 +139,15 @@ fn the_greatest_account_decides(rt: HostRuntime) -> Result<(), Fail> {
 fn the_worst_device_decides(rt: HostRuntime) -> Result<(), Fail> {
     let alloc = rt.alloc();
     let verdict = verdict_after(alloc, established())?;
-    assert!(rt; says(verdict, true, ["live", "enabled", "compliant"], false, true));
+    assert!(rt;
+        says(
+            verdict,
+            true,
+            ["unseen", "enabled", "compliant"],
+            false,
+            true
+        )
+    );
     let verdict = verdict_after(alloc, device(Compliance::NotCompliant))?;
     assert!(rt;
         says(
@@ -152,7 +162,7 @@ fn the_worst_device_decides(rt: HostRuntime) -> Result<(), Fail> {
 }
 
 #[test]
-fn a_wanted_reset_stops_a_user(rt: HostRuntime) -> Result<(), Fail> {
+fn a_wanted_reset_of_a_user_stops_its_session(rt: HostRuntime) -> Result<(), Fail> {
     let alloc = rt.alloc();
     let lost = compromised(alloc)?;
     let verdict = verdict_after(alloc, lost)?;
@@ -162,6 +172,35 @@ fn a_wanted_reset_stops_a_user(rt: HostRuntime) -> Result<(), Fail> {
             true,
             ["unseen", "enabled", "compliant"],
             true,
+            false
+        )
+    );
+    Ok(())
+}
+
+// A user whose session was established, and a device that was revoked.
+fn live_and_revoked(alloc: Global) -> Result<Table, Memory> {
+    let mut table = Table::new(alloc);
+    let owner = whole(alloc, part(alloc, "user", "u")?)?;
+    take(alloc, &mut table, owner, one(alloc, established())?)?;
+    let machine = whole(alloc, part(alloc, "device", "d")?)?;
+    take(alloc, &mut table, machine, one(alloc, revoked())?)?;
+    Ok(table)
+}
+
+#[test]
+fn one_revoked_part_revokes_the_whole(rt: HostRuntime) -> Result<(), Fail> {
+    let alloc = rt.alloc();
+    let table = live_and_revoked(alloc)?;
+    let machine = part(alloc, "device", "d")?;
+    let unknown = joint(alloc, machine, part(alloc, "user", "u")?)?;
+    let verdict = table.verdict(&unknown);
+    assert!(rt;
+        says(
+            verdict,
+            false,
+            ["revoked", "unseen", "unseen"],
+            false,
             false
         )
     );
