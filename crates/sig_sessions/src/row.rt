@@ -5,7 +5,7 @@ ghost use Rattle.sig_sessions.specs.Table as spec;
 use crate::state::State;
 use crate::update::Update;
 use crate::{Account, Device, Opt, Session};
-use sig_json::{Copied, Memory, Text, copy_optional};
+use sig_json::{Copied, Memory, Same, Text, copy_optional};
 use sig_subject::Subject;
 use std::alloc::Global;
 
@@ -101,6 +101,19 @@ impl Row {
 impl Copied for Row {
     fn copied(&self, alloc: Global) -> Result<Row, Memory> {
         self.copy(alloc)
+    }
+}
+
+impl Same for Row {
+    fn same(&self, other: &Row) -> bool {
+        self.subject.same(&other.subject)
+            && self.session.same(&other.session)
+            && self.account.same(&other.account)
+            && self.device.same(&other.device)
+            && self.reset == other.reset
+            && self.stale == other.stale
+            && self.opt.same(&other.opt)
+            && self.level.same(&other.level)
     }
 }
 

@@ -5,6 +5,7 @@ ghost use Rattle.sig_sessions.specs.Verdicts as spec;
 
 use crate::marks::{Mark, is_said};
 use crate::{Account, Device, Row, Session};
+use sig_json::Same;
 use sig_subject::{Subject, identical};
 
 /// What the session table says of a subject.
@@ -23,6 +24,17 @@ pub struct Verdict {
     /// Whether it may go on: its session isn't revoked, its account neither disabled nor purged, its device isn't
     /// non-compliant, and no credential has to be reset.
     pub allow: bool,
+}
+
+impl Same for Verdict {
+    fn same(&self, other: &Verdict) -> bool {
+        self.known == other.known
+            && self.session.same(&other.session)
+            && self.account.same(&other.account)
+            && self.device.same(&other.device)
+            && self.reset == other.reset
+            && self.allow == other.allow
+    }
 }
 
 /// The verdict of the rows on the subject.
