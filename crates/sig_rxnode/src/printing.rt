@@ -7,7 +7,7 @@ use sig_sessions::Row;
 use sig_subject::{Subject, to_json};
 use std::alloc::Global;
 
-/// The line of the answer to the token at a line of the input, numbered from 1.
+/// The line of the answer to the token at a line of the input, numbered from 1. Want of memory is its only error.
 pub fn answer_line(alloc: Global, number: u64, heard: &Heard) -> Result<Text, Memory>
     ensures { IfOk result (λ text. text ≡ answer_text number heard.now) }
 {
@@ -23,7 +23,8 @@ pub fn answer_line(alloc: Global, number: u64, heard: &Heard) -> Result<Text, Me
     Ok(Text::from_string(line))
 }
 
-/// The line of the row at a place, counted from 1.
+/// The line of the row at a place, counted from 1. A subject that holds a value with a fraction, which no token that was
+/// read can have, is printed as null. Want of memory is its only error.
 pub fn row_line(alloc: Global, place: u64, row: &Row) -> Result<Text, Memory>
     ensures { IfOk result (λ text. text ≡ row_text place row.now) }
 {
@@ -82,7 +83,7 @@ fn subject_text(alloc: Global, subject: &Subject) -> Result<Text, Memory>
     canon(alloc, &value)
 }
 
-/// The last line: how many rows there are, and how many distinct tokens were taken.
+/// The last line: how many rows there are, and how many distinct tokens were taken. Want of memory is its only error.
 pub fn counts_line(alloc: Global, rows: usize, tokens: u64) -> Result<Text, Memory>
     ensures { IfOk result (λ text. text ≡ counts_text rows tokens) }
 {
