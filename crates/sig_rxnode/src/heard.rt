@@ -1,3 +1,4 @@
+use sig_json::Same;
 use sig_set::{Code, Spot};
 
 /// What a receiver answers to a token.
@@ -14,4 +15,10 @@ pub enum Heard {
         /// Where.
         spot: Spot,
     },
+}
+
+impl Same for Heard {
+    fn same(&self, other: &Heard) -> bool {
+        self == other
+    }
 }
