@@ -102,7 +102,7 @@ pub(crate) fn settle_in(accounts: &mut [Account], stream: &Text, items: &[Settle
     }
 }
 
-// The name of the stream at a place.
+/// The name of the stream at a place.
 pub(crate) fn name_at(accounts: &[Account], place: usize) -> Option<&Text>
     ensures { option_map (λ name. name.now) result ≡ slice_get (map (λ (s : history.Stream). s.conf.stream) (map stream_in (map owing_in accounts.now))) place }
 {

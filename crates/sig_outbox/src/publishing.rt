@@ -26,7 +26,7 @@ use sig_set::payload_text;
 use sig_subject::{Subject, identical};
 use std::alloc::Global;
 
-// The first publication of a name.
+/// The first publication of a name.
 pub(crate) fn publication_named<'a>(
     published: &'a [Publication],
     id: &Text,
