@@ -61,6 +61,7 @@ impl Outbox {
     ghost use Rattle.sig_outbox.specs.Steps.{told, IsReady};
     ghost use Rattle.sig_outbox.specs.Table.{client_of, created_fact, polled_answer, polled_change, prepared_of, publication_of, publication_told, settled_fact, settling, stream_told};
     ghost use Rattle.sig_outbox.specs.declared.answer.Answer.TheVariants as answer;
+    ghost use Rattle.sig_outbox.specs.declared.carried.Carried.TheVariants as carried;
     ghost use Rattle.std.specs.Prelude.{is_some, option_map};
     ghost use Rattle.std.specs.List.{slice_get};
     ghost use Rattle.sig_outbox.specs.History.{Stream};
@@ -112,43 +113,24 @@ impl Outbox {
         ensures { self.new.sum ≡ sum_of self.old.sum (prepared.fact ∷ []) }
     {
         let (fact, carried) = prepared.into_parts();
-        match fact {
-            Fact::Created {
-                stream,
-                iss,
-                aud,
-                requested,
-                delivery,
-                interval,
-                defaults,
-                description,
-                time: _,
-            } => {
-                let conf = StreamConf {
-                    stream,
-                    iss,
-                    aud,
-                    requested,
-                    delivery,
-                    interval,
-                    defaults,
-                    description,
-                };
-                if let Carried::Client { name, counted } = carried {
-                    self.take_stream(conf, name, counted);
-                }
-            }
-            Fact::Published {
-                id,
-                subject,
-                event,
-                time,
-            } => {
-                if let Carried::Issued { tokens } = carried {
+        match carried {
+            Carried::Client { name, counted } => self.take_created(fact, name, counted),
+            Carried::Issued { tokens } => {
+                if let Fact::Published {
+                    id,
+                    subject,
+                    event,
+                    time,
+                } = fact
+                {
                     self.take_publication(id, subject, event, time, tokens);
                 }
             }
-            Fact::Settled { stream, items } => self.take_settlement(stream, items),
+            Carried::Nothing => {
+                if let Fact::Settled { stream, items } = fact {
+                    self.take_settlement(stream, items);
+                }
+            }
         }
     }
 
@@ -181,6 +163,38 @@ impl Outbox {
         ensures { result ≡ is_some (publication_of id.now self.now.sum.parts.published) }
     {
         publication_named(self.published.as_slice(), id).is_some()
+    }
+
+    // Takes in a stream that was made, with its client's name and that name for its count.
+    fn take_created(&mut self, fact: Fact, name: Text, counted: Text)
+        requires fits { Fits self.old.sum fact }
+        requires room { HasRoom self.old (record { fact = fact; carried = carried.Client name counted }) }
+        ensures { self.new.sum ≡ sum_of self.old.sum (fact ∷ []) }
+    {
+        if let Fact::Created {
+            stream,
+            iss,
+            aud,
+            requested,
+            delivery,
+            interval,
+            defaults,
+            description,
+            time: _,
+        } = fact
+        {
+            let conf = StreamConf {
+                stream,
+                iss,
+                aud,
+                requested,
+                delivery,
+                interval,
+                defaults,
+                description,
+            };
+            self.take_stream(conf, name, counted);
+        }
     }
 
     fn take_stream(&mut self, conf: StreamConf, name: Text, counted: Text)
