@@ -22,3 +22,4 @@ pub mod PreparedLemmas
 pub mod LeftLemmas
 pub mod NameLemmas
 pub mod ProperLemmas
+pub mod SameNews
