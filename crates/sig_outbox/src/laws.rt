@@ -19,8 +19,8 @@ pub fn streams_stand_in_order()
     ensures { StreamsAreSorted }
 {}
 
-/// News with proper events are the same exactly where they are equal: one event about one subject. So a used name is
-/// answered as before only for the very news that were published under it.
+/// News with proper events are the same exactly where they are equal: one event about one subject. So of such news a used
+/// name is answered as before only for those that were published under it.
 pub fn same_news_are_equal()
     ensures { SameNewsAreEqual }
 {}
