@@ -1,10 +1,9 @@
 -- News that are written alike are equal, where their events are proper.
-use Rattle.std.proofs.Common.{◌≡◌, ◌∙◌, ℕ, ◌||◌, ◌&&◌, Bool, true, false, Some, Result, Ok, bytes_eq, if◌then◌else◌, refl, sym, ap, subst}
+use Rattle.std.proofs.Common.{◌≡◌, ◌∙◌, ℕ, ◌&&◌, true, Some, Result, Ok, bytes_eq, if◌then◌else◌, refl, sym, ap, subst}
 use Rattle.std.proofs.lemmas.Bool.{and_from, and_parts}
 use Rattle.std.proofs.lemmas.Slice.Eq.{bytes_eq-Decides}
-use Rattle.serde_json.specs.Data.{Data, Num, unsigned, negative, float, null, boolean, number, string, array, object, Items, no_items, item, Members, no_members, member}
-use Rattle.serde_json.specs.Written.{compact_text, has_float, items_have_float, members_have_float}
-use Rattle.sig_json.specs.Canon.{IsWhole, IsCanonical, AreCanonical, MembersAreCanonical}
+use Rattle.serde_json.specs.Data.{Data, null}
+use Rattle.serde_json.specs.Written.{compact_text}
 use Rattle.sig_json.specs.Json.{json_of}
 use Rattle.sig_subject.specs.declared.subject.Subject.{Subject}
 use Rattle.sig_subject.specs.Matching.{is_identical}
@@ -14,36 +13,10 @@ use Rattle.sig_event.specs.declared.event_fault.EventFault.{EventFault}
 use Rattle.sig_event.specs.Events.{IsProperEvent, event_of, payload_of, uri_of}
 use Rattle.sig_event.proofs.CanonicalEvents.{writes_canonical}
 use Rattle.sig_event.proofs.ReadsEvents.{reads_events}
+use Rattle.sig_set.proofs.ProperClaims.{whole}
 use Rattle.sig_outbox.specs.History.{News}
 use Rattle.sig_outbox.specs.Laws.{SameNewsAreEqual}
 use Rattle.sig_outbox.specs.Table.{event_text, is_same_news}
-
--- ---- no fraction stands in a canonical value
-
-neither : (a b : Bool) → a ≡ false → b ≡ false → a || b ≡ false
-neither a b h k = rw (h, k) refl
-
-whole_number : (n : Num) → IsWhole n → has_float (number n) ≡ false
-whole_number (unsigned n) h = refl
-whole_number (negative n) h = refl
-whole_number (float x) h = absurd h
-
-mutual
-  whole : (d : Data) → IsCanonical d → has_float d ≡ false
-  whole null h = refl
-  whole (boolean b) h = refl
-  whole (number n) h = whole_number n h
-  whole (string s) h = refl
-  whole (array ds) h = whole_items ds h
-  whole (object ms) h = whole_members ms h
-
-  whole_items : (ds : Items) → AreCanonical ds → items_have_float ds ≡ false
-  whole_items no_items h = refl
-  whole_items (item d ds) h = neither (has_float d) (items_have_float ds) (whole d h.0) (whole_items ds h.1)
-
-  whole_members : (ms : Members) → MembersAreCanonical ms → members_have_float ms ≡ false
-  whole_members no_members h = refl
-  whole_members (member k d ms) h = neither (has_float d) (members_have_float ms) (whole d h.1) (whole_members ms h.3)
 
 -- ---- one text is of one event
 

@@ -42,7 +42,7 @@ whole_number (negative n) h = refl
 whole_number (float x) h = absurd h
 
 mutual
-  whole : (d : Data) → IsCanonical d → has_float d ≡ false
+  pub whole : (d : Data) → IsCanonical d → has_float d ≡ false
   whole null h = refl
   whole (boolean b) h = refl
   whole (number n) h = whole_number n h
