@@ -5,7 +5,7 @@ use Rattle.serde_json.specs.Read.{max_depth}
 use Rattle.sig_json.specs.Canon.{IsCanonical}
 use Rattle.sig_json.specs.Payloads.{put_all}
 use Rattle.sig_json.proofs.CanonicalPayloads.{AreNamed, are_named, all_canonical}
-use Rattle.sig_json.proofs.Spelled.{InOrder}
+use Rattle.sig_json.specs.Order.{InOrder}
 use Rattle.sig_caep.specs.Table.{caep_table, common_rules}
 use Rattle.sig_caep.specs.Events.{type_of, kept_of, common_kept, CaepIs, caep_payload}
 use Rattle.sig_caep.specs.declared.event.CaepEvent.{CaepEvent}

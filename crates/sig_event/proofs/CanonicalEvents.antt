@@ -5,7 +5,8 @@ use Rattle.serde_json.specs.Read.{max_depth}
 use Rattle.sig_json.specs.Canon.{IsCanonical}
 use Rattle.sig_json.specs.Members.{Words, Kept}
 use Rattle.sig_json.proofs.CanonicalPayloads.{are_named, all_canonical}
-use Rattle.sig_json.proofs.Spelled.{InOrder, spelled_in_order, spelled_depth}
+use Rattle.sig_json.proofs.Spelled.{spelled_in_order, spelled_depth}
+use Rattle.sig_json.specs.Order.{InOrder}
 use Rattle.sig_subject.specs.declared.subject.Subject.{Subject}
 use Rattle.sig_caep.proofs.CanonicalCaep.{caep_canonical}
 use Rattle.sig_risc.proofs.CanonicalRisc.{risc_canonical}

@@ -4,7 +4,8 @@ use Rattle.serde_json.specs.Data.{Data, depth}
 use Rattle.serde_json.specs.Read.{max_depth}
 use Rattle.sig_json.specs.Members.{Words, Kept, IsObject}
 use Rattle.sig_json.proofs.PutMembers.{payload_has, have_proper}
-use Rattle.sig_json.proofs.Spelled.{InOrder, spelled_in_order, spelled_depth}
+use Rattle.sig_json.proofs.Spelled.{spelled_in_order, spelled_depth}
+use Rattle.sig_json.specs.Order.{InOrder}
 use Rattle.sig_subject.specs.declared.subject.Subject.{Subject}
 use Rattle.sig_caep.proofs.WrittenCaep.{caep_written}
 use Rattle.sig_risc.proofs.WrittenRisc.{risc_written}

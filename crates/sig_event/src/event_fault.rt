@@ -1,7 +1,8 @@
 ghost use Rattle.std.specs.Prelude.{◌≡◌, IfOk};
+ghost use Rattle.sig_event.specs.Faults.{event_fault};
 
-use sig_json::{Memory, PayloadFault};
-use std::alloc::{AllocError, AllocFailed, Global};
+use sig_json::{Memory, MemoryRefusal, PayloadFault};
+use std::alloc::Global;
 
 /// Why a payload is no event of its type about the subject.
 #[derive(Debug, PartialEq, Eq, Drop)]
@@ -12,7 +13,7 @@ pub enum EventFault {
     Payload(PayloadFault),
     /// The event is about an identifier, and the subject is neither an e-mail address nor a telephone number.
     Subject,
-    /// Want of memory.
+    /// Out of memory.
     Memory,
 }
 
@@ -28,14 +29,11 @@ impl EventFault {
             EventFault::Memory => EventFault::Memory,
         })
     }
-}
 
-impl From<PayloadFault> for EventFault {
-    ghost use Rattle.sig_event.specs.Faults.{event_fault};
-
-    ghost from_gives = { λ f e. e ≡ event_fault f };
-
-    fn from(fault: PayloadFault) -> EventFault {
+    /// The same of an event: out of memory stays what it is.
+    pub(crate) fn of_payload(fault: PayloadFault) -> EventFault
+        ensures { result ≡ event_fault fault }
+    {
         match fault {
             PayloadFault::Memory => EventFault::Memory,
             other => EventFault::Payload(other),
@@ -43,32 +41,12 @@ impl From<PayloadFault> for EventFault {
     }
 }
 
-impl From<AllocError> for EventFault {
+impl<R: MemoryRefusal> From<R> for EventFault {
     ghost use Rattle.sig_event.specs.declared.event_fault.EventFault.TheVariants.{Memory};
 
     ghost from_gives = { λ _ e. e ≡ Memory };
 
-    fn from(_error: AllocError) -> EventFault {
-        EventFault::Memory
-    }
-}
-
-impl<T: Drop> From<AllocFailed<T>> for EventFault {
-    ghost use Rattle.sig_event.specs.declared.event_fault.EventFault.TheVariants.{Memory};
-
-    ghost from_gives = { λ _ e. e ≡ Memory };
-
-    fn from(_error: AllocFailed<T>) -> EventFault {
-        EventFault::Memory
-    }
-}
-
-impl From<Memory> for EventFault {
-    ghost use Rattle.sig_event.specs.declared.event_fault.EventFault.TheVariants.{Memory};
-
-    ghost from_gives = { λ _ e. e ≡ Memory };
-
-    fn from(_error: Memory) -> EventFault {
+    fn from(_refusal: R) -> EventFault {
         EventFault::Memory
     }
 }

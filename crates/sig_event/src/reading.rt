@@ -52,8 +52,10 @@ fn about(
     ensures { Answers EventFault.Memory result
         (decided (first_failing (known_checks (Some event_type) (view payload.now) subject.now)) (event_by event_type (view payload.now))) }
 {
-    let event = of_type(alloc, event_type, payload)?;
-    if_fits(event, event_type.fits(subject))
+    match of_type(alloc, event_type, payload) {
+        Ok(event) => if_fits(event, event_type.fits(subject)),
+        Err(fault) => Err(EventFault::of_payload(fault)),
+    }
 }
 
 /// The event, where it may be about its subject.

@@ -12,7 +12,8 @@ use Rattle.sig_json.specs.Members.{Kind, AnyText, OneOf, Whole, TextOrObject, Fi
 use Rattle.sig_json.specs.Payloads.{whole_data, data_of, put_kept, put_all}
 use Rattle.sig_json.proofs.OrderedMembers.{above, below_lower, below_put}
 use Rattle.sig_json.proofs.PutMembers.{inside, spelled_again}
-use Rattle.sig_json.proofs.Spelled.{InOrder, canonical}
+use Rattle.sig_json.specs.Order.{InOrder}
+use Rattle.sig_json.proofs.Spelled.{canonical}
 
 -- the rules' names are UTF-8
 abbrev pub AreNamed : List Rule → Type 0

@@ -12,3 +12,4 @@ pub mod Spelled
 pub mod Shapes
 pub mod PutMembers
 pub mod CanonicalPayloads
+pub mod Fractions

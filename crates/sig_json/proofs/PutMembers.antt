@@ -12,7 +12,8 @@ use Rattle.sig_json.specs.Json.{member_of}
 use Rattle.sig_json.specs.Members.{Kind, AnyText, OneOf, Whole, TextOrObject, FilledObject, TextOrTexts, Rule, Kept, Keeps, KeepsWhole, Has, AllHave}
 use Rattle.sig_json.specs.Payloads.{whole_data, data_of, put_kept, put_all}
 use Rattle.sig_json.proofs.ReadBack.{canon_reads}
-use Rattle.sig_json.proofs.Spelled.{InOrder, FitsNum, canonical, get_in_order, get_depth}
+use Rattle.sig_json.specs.Order.{InOrder, FitsNum}
+use Rattle.sig_json.proofs.Spelled.{canonical, has_in_order}
 
 -- ---- names
 
@@ -135,12 +136,7 @@ put_have (r ∷ rs) (k ∷ ks) ms all distinct none proper same = (
 
 -- what a value in order has is in order
 pub inside : (n : List ℕ) (v d : Data) → InOrder v → depth v ≤ max_depth → member_of n v ≡ Some d → InOrder d × (depth d ≤ max_depth)
-inside n null d order deep is = cc
-inside n (boolean b) d order deep is = cc
-inside n (number x) d order deep is = cc
-inside n (string s) d order deep is = cc
-inside n (array ds) d order deep is = cc
-inside n (object ms) d order deep is = (get_in_order n ms d order is, let below = get_depth n ms d is in omega arith)
+inside n v d order deep is = let h = has_in_order n v d order is in (h.0, omega arith)
 
 whole_back : (n : Num) (z : ℤ) → FitsNum n → as_integer n ≡ Some z → option_and_then as_integer (as_number (whole_data z)) ≡ Some z
 whole_back (unsigned n) (pos m) fits is =

@@ -18,30 +18,8 @@ use Rattle.serde_json.specs.Find.{get_member}
 use Rattle.serde_json.proofs.Nesting.{depth-read}
 use Rattle.serde_json.specs.Read.{max_depth, number_of, number_from, float_of, is_integer, of_json, of_items, of_members, read}
 use Rattle.serde_json.specs.Written.{has_float, items_have_float, members_have_float}
-use Rattle.sig_json.specs.Canon.{IsWhole, IsBelow, IsCanonical, AreCanonical, MembersAreCanonical, SpellsCanonical}
-
-abbrev pub FitsNum : Num → Type 0
-FitsNum (unsigned n) = n < 2 ^ 64
-FitsNum (negative (pos n)) = ⊥
-FitsNum (negative (negsuc n)) = n < 2 ^ 63
-FitsNum (float x) = Unit {0}
-
-abbrev mutual
-  pub InOrder : Data → Type 0
-  InOrder null = Unit {0}
-  InOrder (boolean b) = Unit {0}
-  InOrder (number n) = FitsNum n
-  InOrder (string s) = IsUtf8 s
-  InOrder (array ds) = ItemsInOrder ds
-  InOrder (object ms) = MembersInOrder ms
-
-  pub ItemsInOrder : Items → Type 0
-  ItemsInOrder no_items = Unit {0}
-  ItemsInOrder (item d ds) = InOrder d × ItemsInOrder ds
-
-  pub MembersInOrder : Members → Type 0
-  MembersInOrder no_members = Unit {0}
-  MembersInOrder (member k d ms) = IsUtf8 k × InOrder d × IsBelow k ms × MembersInOrder ms
+use Rattle.sig_json.specs.Canon.{IsWhole, IsCanonical, AreCanonical, MembersAreCanonical, SpellsCanonical}
+use Rattle.sig_json.specs.Order.{FitsNum, InOrder, ItemsInOrder, MembersInOrder, SpellsInOrder, HasInOrder, OrderIsCanonical}
 
 -- ---- numbers
 
@@ -206,3 +184,17 @@ spelled_depth text d is = by_test (is_utf8 text) refl
     by_test : (b : Bool) → is_utf8 text ≡ b → depth d ≤ max_depth
     by_test true e = depth-read text d (rw e at is)
     by_test false e = none_is_some (rw e at is)
+
+pub spells_in_order : SpellsInOrder
+spells_in_order text v is = (spelled_in_order text v is, spelled_depth text v is)
+
+pub has_in_order : HasInOrder
+has_in_order name null d order is = none_is_some is
+has_in_order name (boolean b) d order is = none_is_some is
+has_in_order name (number n) d order is = none_is_some is
+has_in_order name (string s) d order is = none_is_some is
+has_in_order name (array ds) d order is = none_is_some is
+has_in_order name (object ms) d order is = (get_in_order name ms d order is, let below = get_depth name ms d is in omega arith)
+
+pub order_is_canonical : OrderIsCanonical
+order_is_canonical v order plain = canonical v order plain

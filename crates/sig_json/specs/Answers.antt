@@ -1,4 +1,4 @@
--- What a call answers that may want memory.
+-- What a call answers that may run out of memory.
 use Rattle.std.specs.Prelude.{◌≡◌, ◌⊎◌, Result, Ok, Err}
 
 -- it is what was to be answered, unless memory ran out

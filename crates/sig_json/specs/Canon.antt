@@ -1,5 +1,5 @@
 -- Values that canonical texts spell: texts in UTF-8, whole numbers of 64 bits, and members in byte order, each name once (RFC 8259).
-use Rattle.std.specs.Prelude.{◌≡◌, ◌<◌, ◌^◌, ◌≤◌, ℕ, pos, negsuc, List, Some, false, IsUtf8, ⊤}
+use Rattle.std.specs.Prelude.{◌≡◌, ◌<◌, ◌^◌, ◌≤◌, ℕ, pos, negsuc, List, Some, false, IsUtf8, if◌then◌else◌, ⊤}
 use Rattle.std.specs.Ordering.{nat_cmp}
 use Rattle.std.specs.declared.cmp.Ordering.TheVariants.{Less}
 use Rattle.std.specs.Cmp.Lexicographic.{slice_cmp}
@@ -37,6 +37,10 @@ abbrev mutual
   pub MembersAreCanonical : Members → Type 0
   MembersAreCanonical no_members = ⊤
   MembersAreCanonical (member k d ms) = IsUtf8 k × IsCanonical d × IsBelow k ms × MembersAreCanonical ms
+
+-- the value, and null in place of one in which a fraction stands
+abbrev pub without_fraction : Data → Data
+without_fraction d = if has_float d then null else d
 
 -- the compact text of a canonical value spells that value, and so no other
 abbrev pub ReadsCanonical : Type 0

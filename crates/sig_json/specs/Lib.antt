@@ -4,4 +4,5 @@ pub mod Checks
 pub mod Json
 pub mod Listed
 pub mod Members
+pub mod Order
 pub mod Payloads

@@ -3,6 +3,7 @@ ghost use Rattle.serde_json.specs.Data.{depth};
 ghost use Rattle.serde_json.specs.Read.{max_depth};
 ghost use Rattle.serde_json.specs.View.{view};
 ghost use Rattle.serde_json.specs.Written.{compact_text, has_float};
+ghost use Rattle.sig_json.specs.Canon.{without_fraction};
 ghost use Rattle.sig_json.specs.Json.{json_of};
 
 #[cfg(test)]
@@ -48,4 +49,24 @@ pub fn canon(alloc: Global, value: &Value) -> Result<Text, Memory>
     ensures back { depth (view value.now) ≤ max_depth → IfOk result (λ t. json_of t ≡ Some (view value.now)) }
 {
     Ok(Text::from_string(value.to_string(alloc)?))
+}
+
+/// The value, and null in place of one in which a fraction stands.
+pub fn without_fraction(value: Value) -> Value
+    ensures { view result ≡ without_fraction (view value) }
+{
+    if has_fraction(&value) {
+        return Value::Null;
+    }
+    value
+}
+
+/// The canonical text of a value, and `null` for one in which a fraction stands.
+pub fn canon_or_null(alloc: Global, value: &Value) -> Result<Text, Memory>
+    ensures { IfOk result (λ t. t ≡ compact_text (without_fraction (view value.now))) }
+{
+    if has_fraction(value) {
+        return Text::of(alloc, "null");
+    }
+    canon(alloc, value)
 }

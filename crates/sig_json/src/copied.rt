@@ -35,3 +35,16 @@ pub fn copy_items<T: Copied + Drop>(alloc: Global, items: &Items<T>) -> Result<I
     }
     Ok(Items::of(out))
 }
+
+/// An equal value, where there is one.
+pub fn copy_optional<T: Copied + Drop>(
+    alloc: Global,
+    optional: &Option<T>,
+) -> Result<Option<T>, Memory>
+    ensures { IfOk result (λ c. c ≡ optional.now) }
+{
+    match optional {
+        Some(value) => Ok(Some(value.copied(alloc)?)),
+        None => Ok(None),
+    }
+}

@@ -1,14 +1,15 @@
 //! Base types and JSON access.
 //!
 //! Everything above stands on this crate, and it stands on `serde_json` alone. It has the types that the whole
-//! product keeps its data in (`Text`, `Bytes`, `Items`), which contracts see as lists; the one error of want of
-//! memory; the words that say what a reading or judging call answers (`specs/Answers`, `specs/Checks`); every
+//! product keeps its data in (`Text`, `Bytes`, `Items`), which contracts see as lists; the one error of a call that runs
+//! out of memory; the words that say what a reading or judging call answers (`specs/Answers`, `specs/Checks`); every
 //! number that bounds the product (`limits`); look-ups in JSON values; their one canonical text; and the reading and
 //! writing of an event payload's members by rules (`specs/Members`).
 //!
 //! Promised: a value is what `serde_json` reads of the bytes, and `NotJson` comes exactly where there is none; a value
-//! without a fraction has one canonical text, which is read back as that value (`laws`); a member is read exactly where
-//! it meets its rule, and the first check that fails names the fault (`member_laws`).
+//! without a fraction has one canonical text, which is read back as that value, and what a text spells is in order, with
+//! all of its members (`laws`); a member is read exactly where it meets its rule, and the first check that fails names
+//! the fault (`member_laws`).
 //! Left out: which value is read of an object that repeats a member, which `serde_json` decides.
 #![tactic(auto)]
 
@@ -23,25 +24,25 @@ mod listed;
 pub mod member_laws;
 mod members;
 mod memory;
-mod optional;
 mod payload;
 mod reading;
 mod same;
 #[cfg(test)]
 mod tests;
 mod text;
+mod threads;
 
 pub use bytes::Bytes;
-pub use canonical::{canon, has_fraction};
-pub use copied::{Copied, copy_items};
+pub use canonical::{canon, canon_or_null, has_fraction, without_fraction};
+pub use copied::{Copied, copy_items, copy_optional};
 pub use items::Items;
 pub use kinds::{AnyText, FilledObject, OneOf, TextOrObject, TextOrTexts, Whole};
 pub use listed::{Listed, value_named};
 pub use members::{MemberKind, PayloadFault, optional_member, required_member};
-pub use memory::Memory;
-pub use optional::copy_optional;
-pub use payload::{Payload, put_member, put_optional_member, put_value};
+pub use memory::{Memory, MemoryRefusal};
+pub use payload::{Payload, put_member, put_optional_member, put_value, value_spelled};
 pub use reading::{JsonFault, list_of, object_of, present, read, text_of, whole_of};
 pub use same::Same;
 pub use serde_json::Value;
 pub use text::Text;
+pub use threads::crosses_threads;

@@ -7,9 +7,9 @@ ghost use Rattle.sig_json.specs.Json.{member_of};
 ghost use Rattle.sig_json.specs.Members.{Kind, Kept, value_checks, member_checks, optional, required, value_of};
 ghost use Rattle.sig_json.specs.Payloads.{data_of};
 
-use crate::{Memory, Text};
+use crate::{Memory, MemoryRefusal, Text};
 use serde_json::Value;
-use std::alloc::{AllocError, AllocFailed, Global};
+use std::alloc::Global;
 
 /// Why the payload of an event is none of its type. Each fault but `Memory` carries the member's name.
 #[derive(Debug, PartialEq, Eq, Drop)]
@@ -22,7 +22,7 @@ pub enum PayloadFault {
     Value(Text),
     /// A fraction stands where a whole number is read, or inside a value that is kept.
     Fraction(Text),
-    /// Want of memory.
+    /// Out of memory.
     Memory,
 }
 
@@ -41,32 +41,12 @@ impl PayloadFault {
     }
 }
 
-impl From<AllocError> for PayloadFault {
+impl<R: MemoryRefusal> From<R> for PayloadFault {
     ghost use Rattle.sig_json.specs.declared.members.PayloadFault.TheVariants.{Memory};
 
     ghost from_gives = { λ _ e. e ≡ Memory };
 
-    fn from(_error: AllocError) -> PayloadFault {
-        PayloadFault::Memory
-    }
-}
-
-impl<T: Drop> From<AllocFailed<T>> for PayloadFault {
-    ghost use Rattle.sig_json.specs.declared.members.PayloadFault.TheVariants.{Memory};
-
-    ghost from_gives = { λ _ e. e ≡ Memory };
-
-    fn from(_error: AllocFailed<T>) -> PayloadFault {
-        PayloadFault::Memory
-    }
-}
-
-impl From<Memory> for PayloadFault {
-    ghost use Rattle.sig_json.specs.declared.members.PayloadFault.TheVariants.{Memory};
-
-    ghost from_gives = { λ _ e. e ≡ Memory };
-
-    fn from(_error: Memory) -> PayloadFault {
+    fn from(_refusal: R) -> PayloadFault {
         PayloadFault::Memory
     }
 }

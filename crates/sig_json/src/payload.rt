@@ -10,7 +10,7 @@ use std::alloc::Global;
 /// A JSON object that is being written (an event's payload, a subject, claims), with the members that were put so far.
 pub type Payload = Map<String, Value>;
 
-/// Puts a member, in place of one of that name. After want of memory the payload is as before.
+/// Puts a member, in place of one of that name. Where memory runs out the payload is as before.
 pub fn put_member<K: MemberKind>(
     alloc: Global,
     payload: &mut Payload,
@@ -25,7 +25,7 @@ pub fn put_member<K: MemberKind>(
     put_value(alloc, payload, name, value)
 }
 
-/// Puts a member where there is one. After want of memory the payload is as before.
+/// Puts a member where there is one. Where memory runs out the payload is as before.
 pub fn put_optional_member<K: MemberKind>(
     alloc: Global,
     payload: &mut Payload,
@@ -42,8 +42,8 @@ pub fn put_optional_member<K: MemberKind>(
     }
 }
 
-/// Puts a member with this value, in place of one of that name; the value is kept as it is, by no rule. After want of
-/// memory the payload is as before.
+/// Puts a member with this value, in place of one of that name; the value is kept as it is, by no rule. Where memory
+/// runs out the payload is as before.
 pub fn put_value(
     alloc: Global,
     payload: &mut Payload,
@@ -59,7 +59,7 @@ pub fn put_value(
 }
 
 /// The value that a kept text spells, null where it spells none.
-pub(crate) fn value_spelled(alloc: Global, text: &Text) -> Result<Value, Memory>
+pub fn value_spelled(alloc: Global, text: &Text) -> Result<Value, Memory>
     ensures { IfOk result (λ v. view v ≡ spelled text.now) }
 {
     match read(alloc, text.as_str().as_bytes()) {
@@ -69,7 +69,7 @@ pub(crate) fn value_spelled(alloc: Global, text: &Text) -> Result<Value, Memory>
     }
 }
 
-/// A whole number as JSON, null outside of -2^63 to 2^64 - 1.
+// A whole number as JSON, null outside of -2^63 to 2^64 - 1.
 pub(crate) fn whole_value(whole: i128) -> Value
     ensures { view result ≡ whole_data whole }
 {

@@ -9,13 +9,16 @@ ghost use Rattle.sig_json.specs.Json.{json_of, member_of, object_member, text_me
 use serde_json::Value;
 use serde_json::error::Category;
 use std::alloc::Global;
+use thiserror::Error;
 
 /// Why bytes give no JSON value.
-#[derive(Clone, Copy, Debug, PartialEq, Eq, Hash)]
+#[derive(Clone, Copy, Debug, PartialEq, Eq, Hash, Error)]
 pub enum JsonFault {
     /// The bytes spell no JSON value: bad UTF-8, bad syntax, nesting over 127, or a number that cannot be held.
+    #[error("no JSON text of at most 127 levels")]
     NotJson,
-    /// Want of memory.
+    /// Out of memory.
+    #[error("out of memory")]
     Memory,
 }
 

@@ -4,7 +4,7 @@ use Rattle.serde_json.specs.Data.{Data, no_members, depth}
 use Rattle.serde_json.specs.Read.{max_depth}
 use Rattle.sig_json.specs.Canon.{IsCanonical}
 use Rattle.sig_json.proofs.CanonicalPayloads.{AreNamed, are_named, all_canonical}
-use Rattle.sig_json.proofs.Spelled.{InOrder}
+use Rattle.sig_json.specs.Order.{InOrder}
 use Rattle.sig_risc.specs.Table.{risc_table}
 use Rattle.sig_risc.specs.Events.{type_of, kept_of, RiscIs, risc_payload}
 use Rattle.sig_risc.specs.declared.event.RiscEvent.{RiscEvent}

@@ -3,7 +3,7 @@ use Rattle.std.proofs.Common.{◌≤◌, ℕ, List, refl}
 use Rattle.serde_json.specs.Data.{Data, depth}
 use Rattle.serde_json.specs.Read.{max_depth}
 use Rattle.sig_json.proofs.PutMembers.{AreDistinct, payload_has, have_proper}
-use Rattle.sig_json.proofs.Spelled.{InOrder}
+use Rattle.sig_json.specs.Order.{InOrder}
 use Rattle.sig_risc.specs.Table.{risc_table}
 use Rattle.sig_risc.specs.Events.{type_of, kept_of, RiscIs, risc_payload}
 use Rattle.sig_risc.specs.declared.event.RiscEvent.{RiscEvent}

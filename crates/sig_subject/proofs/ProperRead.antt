@@ -1,5 +1,6 @@
 -- A subject that was read of a text is proper, and a proper one is written as a canonical value.
 use Rattle.std.proofs.Common.{◌≡◌, ◌≤◌, ◌||◌, ℕ, List, [], ◌∷◌, Bool, true, false, codes, Some, refl, sym, ap, ◌∙◌, subst, arith}
+use Rattle.std.specs.Prelude.{Result, Ok}
 use Rattle.serde_json.specs.Data.{Data, string, array, object, Items, no_items, item, Members, no_members, member, depth, items_depth, members_depth}
 use Rattle.serde_json.specs.Find.{get_member}
 use Rattle.serde_json.specs.Read.{max_depth}
@@ -8,10 +9,11 @@ use Rattle.sig_json.specs.Canon.{IsCanonical}
 use Rattle.sig_json.specs.Json.{json_of, member_of, text_member}
 use Rattle.sig_json.proofs.OrderedMembers.{get_here, get_later}
 use Rattle.sig_json.proofs.ReadBack.{canon_reads}
-use Rattle.sig_json.proofs.Spelled.{InOrder, ItemsInOrder, MembersInOrder, canonical, get_depth, get_in_order, spelled_depth, spelled_in_order}
-use Rattle.sig_subject.proofs.Identity.{text_sound}
+use Rattle.sig_json.proofs.Spelled.{canonical, get_depth, get_in_order, spelled_depth, spelled_in_order}
+use Rattle.sig_json.specs.Order.{InOrder, ItemsInOrder, MembersInOrder}
+use Rattle.sig_subject.proofs.Identity.{decides_identity, text_sound}
 use Rattle.sig_subject.proofs.SubjectReading.{reads_subjects}
-use Rattle.sig_subject.proofs.WrittenBack.{is_format, aliases_written, plain_written, string_of, writes_back}
+use Rattle.sig_subject.proofs.WrittenBack.{is_format, aliases_written, plain_written, string_of, writes_back, written_back}
 use Rattle.sig_subject.specs.declared.plain.Plain.{Plain}
 use Rattle.sig_subject.specs.declared.plain.Plain.TheVariants as plain
 use Rattle.sig_subject.specs.declared.simple.Simple.{Simple}
@@ -20,7 +22,10 @@ use Rattle.sig_subject.specs.declared.member.Member.{Member}
 use Rattle.sig_subject.specs.declared.subject.Subject.{Subject}
 use Rattle.sig_subject.specs.declared.subject.Subject.TheVariants as subject
 use Rattle.sig_subject.specs.Subjects.{PartsAre, PlainIs, PlainsAre, SimpleIs, SubjectIs, parts_of}
-use Rattle.sig_subject.specs.Written.{of_format, subject_data, subject_text, ReadsProper, WritesCanonical}
+use Rattle.sig_subject.specs.declared.subject_fault.SubjectFault.{SubjectFault}
+use Rattle.sig_subject.specs.Laws.{TextsIdentify}
+use Rattle.sig_subject.specs.Reading.{subject_of}
+use Rattle.sig_subject.specs.Written.{IsProperSubject, of_format, subject_text, ReadsProper, WritesCanonical}
 
 neither : (a b : Bool) → a ≡ false → b ≡ false → a || b ≡ false
 neither a b h k = rw (h, k) refl
@@ -105,11 +110,9 @@ subject_whole (subject.Complex parts) v h ordered shallow =
     ∙ parts_whole ms parts h.1.2 members (omega arith) (λ d found. ap has_float (some_same d (string (codes "complex")) (sym found ∙ named)))
 
 pub reads_proper : ReadsProper
-reads_proper text v s spelled read =
+reads_proper v s ordered shallow read =
     let is = (reads_subjects s v).1 read in
-    let ordered = spelled_in_order text v spelled in
-    let shallow = spelled_depth text v spelled in
-    let written : subject_data s ≡ v = writes_back text s v spelled is in
+    let written = written_back s v ordered shallow is in
     (v, ap (λ d. json_of (compact_text d)) written ∙ canon_reads v (canonical v ordered (subject_whole s v is ordered shallow)) shallow, is)
 
 pub writes_canonical : WritesCanonical
@@ -117,3 +120,18 @@ writes_canonical s (v, spelled, is) =
     let ordered = spelled_in_order (subject_text s) v spelled in
     let shallow = spelled_depth (subject_text s) v spelled in
     subst IsCanonical (sym (writes_back (subject_text s) s v spelled is)) (canonical v ordered (subject_whole s v is ordered shallow))
+
+same_value : (v w : Data) → Some v ≡ Some w → v ≡ w
+same_value v w h = cc
+
+same_subject : (a b : Subject) → (let one : Result Subject SubjectFault = Ok a in one ≡ Ok b) → a ≡ b
+same_subject a b h = cc
+
+-- proper subjects of one text are read of one value
+one_text : (a b : Subject) → IsProperSubject a → IsProperSubject b → subject_text a ≡ subject_text b → a ≡ b
+one_text a b (v, spelled, is) (w, spelled_too, is_too) same =
+    let value : v ≡ w = same_value v w (sym spelled ∙ ap json_of same ∙ spelled_too) in
+    same_subject a b (sym ((reads_subjects a v).0 is) ∙ ap subject_of value ∙ (reads_subjects b w).0 is_too)
+
+pub texts_identify : TextsIdentify
+texts_identify a b one two = (λ same. ap subject_text ((decides_identity a b).0 same), λ same. (decides_identity a b).1 (one_text a b one two same))

@@ -9,7 +9,8 @@ use Rattle.serde_json.proofs.Views.{get_member-put, get_member-put_other}
 use Rattle.sig_json.specs.Json.{json_of, member_of, text_member}
 use Rattle.sig_json.proofs.OrderedMembers.{AreOrdered, get_here, get_later, get_skips, ordered_put, same_members}
 use Rattle.sig_json.proofs.ReadBack.{canon_reads}
-use Rattle.sig_json.proofs.Spelled.{InOrder, ItemsInOrder, MembersInOrder, canonical, get_depth, get_in_order, in_order_members, spelled_depth, spelled_in_order}
+use Rattle.sig_json.proofs.Spelled.{canonical, get_depth, get_in_order, in_order_members, spelled_depth, spelled_in_order}
+use Rattle.sig_json.specs.Order.{InOrder, ItemsInOrder, MembersInOrder}
 use Rattle.sig_subject.proofs.Identity.{text_same, text_sound}
 use Rattle.sig_subject.proofs.SubjectReading.{reads_subjects}
 use Rattle.sig_subject.specs.declared.plain.Plain.{Plain}
@@ -215,7 +216,11 @@ subject_written (subject.Complex parts) v h ordered shallow =
     ∙ ap object (members_are ms fields stand (named, parts_found (λ k. get_member k ms) ms stand (λ k d e. e)) (λ k h. let p = or_parts (is_format k) (is_among k (parts_of ms)) h in missing k ms p.0 p.1))
     ∙ sym h.1.1
 
-pub writes_back : WritesBack
+pub written_back : WritesBack
+written_back s v ordered shallow is = subject_written s v is ordered shallow
+
+-- likewise of a value that a text spells
+pub writes_back : (text : List ℕ) (s : Subject) (v : Data) → json_of text ≡ Some v → SubjectIs s v → subject_data s ≡ v
 writes_back text s v spelled is = subject_written s v is (spelled_in_order text v spelled) (spelled_depth text v spelled)
 
 pub reads_written : ReadsWritten
