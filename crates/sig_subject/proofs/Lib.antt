@@ -7,3 +7,5 @@ pub mod PlainReading
 pub mod SubjectReading
 pub mod WrittenBack
 pub mod ProperRead
+pub mod Parts
+pub mod Covering

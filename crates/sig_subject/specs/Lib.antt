@@ -1,4 +1,5 @@
 pub mod Formats
+pub mod Laws
 pub mod Matching
 pub mod Reading
 pub mod Subjects

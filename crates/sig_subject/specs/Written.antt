@@ -1,11 +1,13 @@
 -- How a subject is written as a JSON value, and which subjects are proper (RFC 9493, section 3; OpenID Shared Signals Framework 1.0,
 -- section 4).
-use Rattle.std.specs.Prelude.{◌≡◌, ℕ, List, [], ◌∷◌, map, Some, Ok, codes, unwrap_or}
-use Rattle.serde_json.specs.Data.{Data, null, string, array, object, Members, no_members, put}
+use Rattle.std.specs.Prelude.{◌≡◌, ◌≤◌, ℕ, List, [], ◌∷◌, map, Some, Ok, codes, unwrap_or}
+use Rattle.serde_json.specs.Data.{Data, null, string, array, object, Members, no_members, put, depth}
+use Rattle.serde_json.specs.Read.{max_depth}
 use Rattle.serde_json.specs.View.{items_of}
 use Rattle.serde_json.specs.Written.{compact_text}
 use Rattle.sig_json.specs.Canon.{IsCanonical}
 use Rattle.sig_json.specs.Json.{json_of}
+use Rattle.sig_json.specs.Order.{InOrder}
 use Rattle.sig_subject.specs.declared.plain.Plain.{Plain}
 use Rattle.sig_subject.specs.declared.plain.Plain.TheVariants as plain
 use Rattle.sig_subject.specs.declared.simple.Simple.{Simple}
@@ -56,13 +58,13 @@ subject_text s = compact_text (subject_data s)
 abbrev pub IsProperSubject : Subject → Type 0
 IsProperSubject s = (v : Data) × (json_of (subject_text s) ≡ Some v) × SubjectIs s v
 
--- what a text spells is written back as the same value
+-- a value in order that nests at most 127 deep, as any that a text spells, is written back as the same value
 abbrev pub WritesBack : Type 0
-WritesBack = (text : List ℕ) (s : Subject) (v : Data) → json_of text ≡ Some v → SubjectIs s v → subject_data s ≡ v
+WritesBack = (s : Subject) (v : Data) → InOrder v → depth v ≤ max_depth → SubjectIs s v → subject_data s ≡ v
 
--- what is read of a text is proper
+-- what is read of such a value is proper
 abbrev pub ReadsProper : Type 0
-ReadsProper = (text : List ℕ) (v : Data) (s : Subject) → json_of text ≡ Some v → subject_of v ≡ Ok s → IsProperSubject s
+ReadsProper = (v : Data) (s : Subject) → InOrder v → depth v ≤ max_depth → subject_of v ≡ Ok s → IsProperSubject s
 
 -- what is written of a proper subject is read as an identical one
 abbrev pub ReadsWritten : Type 0

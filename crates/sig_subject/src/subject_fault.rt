@@ -1,10 +1,10 @@
-ghost use Rattle.std.specs.Prelude.{◌≡◌};
+ghost use Rattle.std.specs.Prelude.{◌≡◌, IfOk};
 
-use sig_json::Text;
-use std::alloc::{AllocError, AllocFailed};
+use sig_json::{Memory, MemoryRefusal, Text};
+use std::alloc::Global;
 
 /// Why a JSON value is no subject. The first check that fails decides.
-#[derive(Debug, PartialEq, Drop)]
+#[derive(Debug, PartialEq, Eq, Drop)]
 pub enum SubjectFault {
     /// The value is no object, or its `format` is no text.
     Format,
@@ -16,36 +16,32 @@ pub enum SubjectFault {
     Nested,
     /// A fraction stands in a subject of an unknown format, which would be kept as text.
     Fraction,
-    /// Want of memory.
+    /// Out of memory.
     Memory,
 }
 
-impl From<AllocError> for SubjectFault {
-    ghost use Rattle.sig_subject.specs.declared.subject_fault.SubjectFault.TheVariants.{Memory};
-
-    ghost from_gives = { λ _ e. e ≡ Memory };
-
-    fn from(_error: AllocError) -> SubjectFault {
-        SubjectFault::Memory
+impl SubjectFault {
+    /// An equal fault.
+    pub fn copy(&self, alloc: Global) -> Result<SubjectFault, Memory>
+        ensures { IfOk result (λ f. f ≡ self.now) }
+    {
+        Ok(match self {
+            SubjectFault::Format => SubjectFault::Format,
+            SubjectFault::Member(name) => SubjectFault::Member(name.copy(alloc)?),
+            SubjectFault::Empty => SubjectFault::Empty,
+            SubjectFault::Nested => SubjectFault::Nested,
+            SubjectFault::Fraction => SubjectFault::Fraction,
+            SubjectFault::Memory => SubjectFault::Memory,
+        })
     }
 }
 
-impl<T: Drop> From<AllocFailed<T>> for SubjectFault {
+impl<R: MemoryRefusal> From<R> for SubjectFault {
     ghost use Rattle.sig_subject.specs.declared.subject_fault.SubjectFault.TheVariants.{Memory};
 
     ghost from_gives = { λ _ e. e ≡ Memory };
 
-    fn from(_error: AllocFailed<T>) -> SubjectFault {
-        SubjectFault::Memory
-    }
-}
-
-impl From<sig_json::Memory> for SubjectFault {
-    ghost use Rattle.sig_subject.specs.declared.subject_fault.SubjectFault.TheVariants.{Memory};
-
-    ghost from_gives = { λ _ e. e ≡ Memory };
-
-    fn from(_error: sig_json::Memory) -> SubjectFault {
+    fn from(_refusal: R) -> SubjectFault {
         SubjectFault::Memory
     }
 }

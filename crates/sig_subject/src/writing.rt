@@ -1,12 +1,11 @@
-ghost use Rattle.std.specs.Prelude.{◌≡◌, ◌∷◌, [], IfOk, OnOk, codes, map, unwrap_or};
-ghost use Rattle.serde_json.specs.Data.{array, null, put, string};
+ghost use Rattle.std.specs.Prelude.{◌≡◌, ◌∷◌, [], IfOk, OnOk, codes, map};
+ghost use Rattle.serde_json.specs.Data.{array, put, string};
 ghost use Rattle.serde_json.specs.View.{items_of, members_view, view};
-ghost use Rattle.sig_json.specs.Json.{json_of};
 ghost use Rattle.sig_subject.specs.Written.{of_format, part_data, plain_data, put_all, simple_data, subject_data};
 
 use crate::{Member, Plain, Simple, Subject};
 use serde_json::{Map, Value};
-use sig_json::{JsonFault, Memory, Text, put_value, read};
+use sig_json::{Memory, Text, put_value, value_spelled};
 use std::alloc::Global;
 
 /// The object of the subject (RFC 9493, section 3.2; OpenID Shared Signals Framework 1.0, section 4). A subject of an
@@ -96,18 +95,7 @@ fn plain_value(alloc: Global, plain: &Plain) -> Result<Value, Memory>
             ("issuer", issuer),
             ("assertion_id", assertion_id),
         ),
-        Plain::Unknown { canon } => spelled(alloc, canon),
-    }
-}
-
-/// The value that a kept text spells, null where it spells none.
-fn spelled(alloc: Global, text: &Text) -> Result<Value, Memory>
-    ensures { IfOk result (λ v. view v ≡ unwrap_or (json_of text.now) null) }
-{
-    match read(alloc, text.as_str().as_bytes()) {
-        Ok(value) => Ok(value),
-        Err(JsonFault::NotJson) => Ok(Value::Null),
-        Err(JsonFault::Memory) => Err(Memory),
+        Plain::Unknown { canon } => value_spelled(alloc, canon),
     }
 }
 
