@@ -6,11 +6,12 @@ ghost use Rattle.sig_json.specs.Answers.{Answers};
 ghost use Rattle.sig_jws.specs.Hmac.{hmac_of};
 ghost use Rattle.sig_jws.specs.Compact.{AreParts, cut_at_dots, decoded, dot, parts_of, signed, split_of};
 
-use crate::mac::{MAC_BYTES, hmac};
+use crate::mac::{MAC_BYTES, hmac, is_mac};
 use base64::engine::general_purpose::URL_SAFE_NO_PAD;
 use base64::{DecodeAllocError, encoded_len};
 use sig_json::{Bytes, Copied, Memory, Same};
 use std::alloc::{AllocError, AllocFailed, Global};
+use thiserror::Error;
 
 /// A text in compact form, decoded: what its three parts hold, and the text that the MAC covers.
 #[derive(Debug, PartialEq, Eq, Hash, Drop)]
@@ -26,17 +27,22 @@ pub struct Compact {
 }
 
 /// Why a text has no compact form.
-#[derive(Clone, Copy, Debug, PartialEq, Eq, Hash)]
+#[derive(Clone, Copy, Debug, PartialEq, Eq, Hash, Error)]
 pub enum SplitFault {
     /// There are not two dots, or a part is empty.
+    #[error("the text has not three parts")]
     Dots,
     /// The first part is no canonical base64url.
+    #[error("the header is no base64url")]
     Header,
     /// The second part is none, and the first is.
+    #[error("the payload is no base64url")]
     Payload,
     /// The third part is none, and the others are.
+    #[error("the MAC is no base64url")]
     Mac,
-    /// Want of memory.
+    /// Out of memory.
+    #[error("out of memory")]
     Memory,
 }
 
@@ -202,9 +208,10 @@ fn part_bytes(alloc: Global, part: &[u8], fault: SplitFault) -> Result<Bytes, Sp
     }
 }
 
-/// Whether the MAC is the right one for the signing input (RFC 7515, section 5.2, step 8). It takes no memory.
+/// Whether the MAC is the right one for the signing input (RFC 7515, section 5.2, step 8). All of its bytes are
+/// compared, whichever differ (RFC 7518, section 3.2). It takes no memory.
 pub fn verifies(token: &Compact, key: &[u8]) -> bool
     ensures { IsTrue result ↔ (token.now.mac ≡ hmac_of key.now token.now.input) }
 {
-    token.mac.as_slice() == hmac(key, token.input.as_slice()).as_slice()
+    is_mac(token.mac.as_slice(), &hmac(key, token.input.as_slice()))
 }

@@ -6,14 +6,16 @@
 //!
 //! Promised: `hmac` and `sign` give exactly what the formulas say (`specs/Hmac`, `specs/Compact`); `split` refuses
 //! exactly the texts that it names, and gives back what was signed (`laws`); `verifies` says yes exactly where the MAC
-//! is right. Left out: what the header and the payload say, and which key is to be taken, which the caller decides;
-//! that a MAC cannot be forged; and that a comparison takes the same time for any MAC.
+//! is right, and looks at all bytes of it. Left out: what the header and the payload say, and which key is to be taken,
+//! which the caller decides; that a MAC cannot be forged; and that a comparison takes the same time for any MAC, of
+//! which no contract speaks (the page of `mac` says more).
 #![tactic(auto)]
 
 mod compact;
 mod key;
 pub mod laws;
 mod mac;
+mod moving;
 #[cfg(test)]
 mod tests;
 

@@ -1,6 +1,10 @@
-//! HMAC with SHA-256 (RFC 2104).
+//! HMAC with SHA-256 (RFC 2104), and the comparison of two MACs.
+//!
+//! A comparison that ends at the first byte that differs tells by its time how far a forged MAC is right. `is_mac` looks
+//! at all 32 bytes and ends no earlier, as RFC 7518, section 3.2, asks. That is what the source says: no contract
+//! speaks of time, and a compiler may still choose other steps that give the same answer.
 
-ghost use Rattle.std.specs.Prelude.{◌≡◌, ◌≤◌, ◌++◌, length, drop};
+ghost use Rattle.std.specs.Prelude.{◌≡◌, ◌≤◌, ◌↔◌, ◌++◌, IsTrue, length, drop};
 ghost use Rattle.sig_jws.specs.Hmac.{block_of, hmac_of, mixed};
 
 use sha2::{Digest, Sha256};
@@ -41,9 +45,9 @@ fn block_from(key: &[u8]) -> [u8; BLOCK_BYTES]
     let mut block = [0u8; BLOCK_BYTES];
     if key.len() > BLOCK_BYTES {
         let digest = Sha256::digest(key);
-        put_front(&mut block, &digest);
+        put_prefix(&mut block, &digest);
     } else {
-        put_front(&mut block, key);
+        put_prefix(&mut block, key);
     }
     block
 }
@@ -58,11 +62,30 @@ fn mixed_with(block: &[u8; BLOCK_BYTES], byte: u8) -> [u8; BLOCK_BYTES]
     out
 }
 
-// Writes the bytes over the front of the block.
-fn put_front(block: &mut [u8], bytes: &[u8])
+// Writes the bytes over a prefix of the block.
+fn put_prefix(block: &mut [u8], bytes: &[u8])
     requires { length bytes.now ≤ length block.old }
     ensures { block.new ≡ bytes.now ++ drop (length bytes.now) block.old }
 {
-    let (front, _) = block.split_at_mut(bytes.len());
-    front.copy_from_slice(bytes);
+    let (prefix, _) = block.split_at_mut(bytes.len());
+    prefix.copy_from_slice(bytes);
+}
+
+/// Whether the bytes are this MAC. Of 32 bytes each is looked at, whichever differ.
+pub(crate) fn is_mac(bytes: &[u8], mac: &[u8; MAC_BYTES]) -> bool
+    ensures { IsTrue result ↔ (bytes.now ≡ mac.now) }
+{
+    bytes.len() == MAC_BYTES && difference(bytes, mac.as_slice()) == 0
+}
+
+// All bits in which bytes at one place differ, folded into one byte: none exactly where the two are equal.
+fn difference(bytes: &[u8], others: &[u8]) -> u8
+    requires { length bytes.now ≡ length others.now }
+    ensures { (result ≡ 0) ↔ (bytes.now ≡ others.now) }
+{
+    let mut bits = 0;
+    for i in 0..bytes.len() {
+        bits |= bytes[i] ^ others[i];
+    }
+    bits
 }
