@@ -18,6 +18,7 @@ add_case() { # EXAMPLE WORDS..
 
 add_case tokens fold https://idp.example https://rp.example MDEyMzQ1Njc4OWFiY2RlZjAxMjM0NTY3ODlhYmNkZWY
 add_case replay replay
+add_case first replay
 # `rt try` runs the program without proving it again.
 cd crates/signals
 rt try --cases "$folder"

@@ -1,0 +1,55 @@
+#!/usr/bin/env python3
+"""Draws the crates of crates.txt by layer: each stands above all that it stands on.
+
+An arrow leads to the crates that it stands on directly; those that stand below one of these are left out.
+"""
+import os
+
+TOP = os.path.join(os.path.dirname(os.path.abspath(__file__)), "..")
+
+
+def crates():
+    """Each crate of the repository, in the order of crates.txt, with the crates of the repository that it names."""
+    named = {}
+    for line in open(os.path.join(TOP, "crates.txt"), encoding="utf-8"):
+        line = line.split("#")[0]
+        if ":" in line:
+            name, used = line.split(":")
+            named[name.split()[0]] = used.split()
+    return {name: [one for one in used if one in named] for name, used in named.items()}
+
+
+def below(name, used):
+    """All crates that a crate stands on."""
+    found = set()
+    for one in used[name]:
+        found |= {one} | below(one, used)
+    return found
+
+
+def direct(name, used):
+    """The crates that it stands on and that stand below none of the others."""
+    return [one for one in used[name] if not any(one in below(other, used) for other in used[name])]
+
+
+def layers(used):
+    """The crates of each layer, lowest first."""
+    height = {}
+    for name in used:
+        height[name] = 1 + max((height[one] for one in used[name]), default=0)
+    return [[name for name in used if height[name] == layer] for layer in range(1, max(height.values()) + 1)]
+
+
+def drawing():
+    used = crates()
+    width = max(map(len, used))
+    lines = []
+    for number, names in reversed(list(enumerate(layers(used), 1))):
+        for place, name in enumerate(names):
+            arrow = " -> " + ", ".join(direct(name, used)) if used[name] else ""
+            lines.append(f"{number if place == 0 else ' ':>2} | {name:{width}}{arrow}".rstrip())
+    return "\n".join(lines) + "\n"
+
+
+if __name__ == "__main__":
+    print(drawing(), end="")
