@@ -4,7 +4,7 @@ import os
 import re
 import sys
 
-from draw_crates import TOP, crates, drawing
+from draw_crates import TOP, crates, framed
 
 DOCUMENTS = [
     "README.md",
@@ -92,8 +92,8 @@ def check_help(text):
 
 
 def check_picture(text):
-    if f"<!-- tools/draw_crates.py -->\n```text\n{drawing()}```\n" not in text:
-        tell("docs/ARCHITECTURE.md", "the picture isn't what tools/draw_crates.py draws")
+    if framed() not in text:
+        tell("docs/ARCHITECTURE.md", "the picture isn't what tools/draw_crates.py draws; with the word write it puts it there")
 
 
 def sources_of(crate):

@@ -1,9 +1,12 @@
 #!/usr/bin/env python3
 """Draws the crates of crates.txt by layer: each stands above all that it stands on.
 
-An arrow leads to the crates that it stands on directly; those that stand below one of these are left out.
+An arrow leads to the crates that it stands on directly; those that stand below one of these are left out. With the word
+`write` the drawing goes into docs/ARCHITECTURE.md, in the place of the one that is there.
 """
 import os
+import re
+import sys
 
 TOP = os.path.join(os.path.dirname(os.path.abspath(__file__)), "..")
 
@@ -51,5 +54,21 @@ def drawing():
     return "\n".join(lines) + "\n"
 
 
+def framed():
+    """The drawing as it stands in the document."""
+    return f"<!-- tools/draw_crates.py -->\n```text\n{drawing()}```\n"
+
+
+def write():
+    path = os.path.join(TOP, "docs", "ARCHITECTURE.md")
+    with open(path, encoding="utf-8") as file:
+        text = file.read()
+    with open(path, "w", encoding="utf-8") as file:
+        file.write(re.sub(r"<!-- tools/draw_crates.py -->\n```text\n.*?```\n", lambda _: framed(), text, flags=re.S))
+
+
 if __name__ == "__main__":
-    print(drawing(), end="")
+    if sys.argv[1:] == ["write"]:
+        write()
+    else:
+        print(drawing(), end="")
