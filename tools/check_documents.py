@@ -1,10 +1,10 @@
-#!/usr/bin/env python3
+#!/usr/bin/env -S python3 -B
 """The documents agree with the repository: its crates, files, names, examples and the picture of its layers."""
 import os
 import re
 import sys
 
-from draw_crates import TOP, crates, framed
+from draw_crates import TOP, crates, framed, kit
 
 DOCUMENTS = [
     "README.md",
@@ -73,6 +73,9 @@ def check_readme(text):
     shown = re.search(r"^```rust\n(.*?)^```", text, re.M | re.S).group(1)
     if without_space(shown) not in without_space(without_contracts(text_of("crates/sig_guard/src/guard.rt"))):
         tell("README.md", "its code isn't that of crates/sig_guard/src/guard.rt")
+    for name in kit():
+        if f"`{name}`" not in text:
+            tell("README.md", f"it doesn't say that {name} is trusted")
 
 
 def without_contracts(source):
@@ -99,11 +102,10 @@ def check_picture(text):
 def sources_of(crate):
     """The words of a crate's sources and definitions, and the names of its files."""
     words = set()
-    for folder, _, files in os.walk(os.path.join(TOP, "crates", crate)):
-        if not {"out", "proofs"} & set(folder.split(os.sep)):
+    for part in ("src", "specs"):
+        for folder, _, files in os.walk(os.path.join(TOP, "crates", crate, part)):
             for file in files:
-                if file.endswith((".rt", ".antt")):
-                    words |= {file.split(".")[0]} | set(re.findall(r"\w+", text_of(os.path.join(folder, file))))
+                words |= {file.split(".")[0]} | set(re.findall(r"\w+", text_of(os.path.join(folder, file))))
     return words
 
 

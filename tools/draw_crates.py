@@ -11,15 +11,27 @@ import sys
 TOP = os.path.join(os.path.dirname(os.path.abspath(__file__)), "..")
 
 
-def crates():
-    """Each crate of the repository, in the order of crates.txt, with the crates of the repository that it names."""
-    named = {}
+def named():
+    """Each crate of the repository, in the order of crates.txt, with all that its line names."""
+    found = {}
     for line in open(os.path.join(TOP, "crates.txt"), encoding="utf-8"):
         line = line.split("#")[0]
         if ":" in line:
             name, used = line.split(":")
-            named[name.split()[0]] = used.split()
-    return {name: [one for one in used if one in named] for name, used in named.items()}
+            found[name.split()[0]] = used.split()
+    return found
+
+
+def crates():
+    """Each crate of the repository with the crates of the repository that it names."""
+    found = named()
+    return {name: [one for one in used if one in found] for name, used in found.items()}
+
+
+def kit():
+    """The crates of the kit that some crate names."""
+    found = named()
+    return {one for used in found.values() for one in used} - set(found)
 
 
 def below(name, used):
