@@ -1,5 +1,9 @@
 pub mod Causes
+pub mod Disk
+pub mod DiskCalls
+pub mod DiskLaws
 pub mod Held
+pub mod KeptDisk
 pub mod Lines
 pub mod Memory
 pub mod Modes

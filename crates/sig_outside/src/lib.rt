@@ -15,10 +15,13 @@
 //! bytes it is asked for at once.
 #![tactic(auto)]
 
+mod disk;
+mod disk_call;
 mod failed;
 mod held;
 mod line;
 mod lines;
+mod memory_disk;
 mod memory_sink;
 mod memory_source;
 mod mode;
@@ -26,9 +29,11 @@ mod reach;
 mod sink;
 mod source;
 
+pub use disk::Disk;
 pub use failed::Failed;
 pub use line::{Line, LineFault};
 pub use lines::Lines;
+pub use memory_disk::MemDisk;
 pub use memory_sink::MemSink;
 pub use memory_source::MemSource;
 pub use mode::Mode;
