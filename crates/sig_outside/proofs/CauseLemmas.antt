@@ -1,8 +1,17 @@
 -- What follows from counts that rose, and from bytes that a sink took.
-use Rattle.std.proofs.Common.{◌≡◌, ◌≢◌, ℕ, zero, suc, ◌≤◌, List, [], ◌++◌, Option, refl, sym, ◌∙◌, ap, arith, append_assoc}
+use Rattle.std.proofs.Common.{◌≡◌, ◌≢◌, ℕ, zero, suc, ◌≤◌, List, [], ◌++◌, Option, Result, Ok, Err, refl, sym, ◌∙◌, ap, arith, append_assoc}
 use Rattle.std.specs.Io.KnownBytes.{Appends, Keeps}
 use Rattle.std.proofs.KnownBytes.{Appends-trans, Appends-kept, Appends-nil}
-use Rattle.sig_outside.specs.Causes.{Rose, Stalls, AppendsPrefix}
+use Rattle.sig_outside.specs.Causes.{AppendsPrefix, HasCause, Raised, Rose, Stalls}
+
+-- a count that was raised rose
+pub raised_rose : (a b : ℕ) → Raised a b → Rose a b
+raised_rose a b h = omega (arith, h.1)
+
+-- no call lowers its count
+pub has_cause_later : {T E : Type 0} (a b : ℕ) (r : Result T E) → HasCause a b r → a ≤ b
+has_cause_later a b (Ok x) h = omega (arith, h.stays)
+has_cause_later a b (Err e) h = h.failed.0
 
 -- what rose stays risen
 pub rose_later : (a b c : ℕ) → Rose a b → b ≤ c → Rose a c

@@ -94,9 +94,9 @@ module _ {T E : Type 0} where
       record { stays = λ was. subst (λ (b : Bool). IsTrue b) (sym is) refl; only_failed = tt }
 
   pub makes_cause : (more : List DiskCall) (old new : Kept) (result : Result T E) → Makes more old new result → old.faults ≤ new.faults → HasCause old.faults new.faults result
-  makes_cause more old new (Ok x) m later = record { later = later; failed = tt }
-  makes_cause more old new (Err e) (inl m) later = record { later = later; failed = omega (arith, ap (λ (k : Kept). k.faults) m.1) }
-  makes_cause more old new (Err e) (inr m) later = record { later = later; failed = omega (arith, ap (λ (k : Kept). k.faults) m.1) }
+  makes_cause more old new (Ok x) m later = record { stays = ap (λ (k : Kept). k.faults) m.1; failed = tt }
+  makes_cause more old new (Err e) (inl m) later = record { stays = tt; failed = (later, ap (λ (k : Kept). k.faults) m.1) }
+  makes_cause more old new (Err e) (inr m) later = record { stays = tt; failed = (later, ap (λ (k : Kept). k.faults) m.1) }
 
   -- a call with a call left uses it
   uses_left : (more : List DiskCall) (first : List ℕ) (calls : List DiskCall) (left fill : ℕ) (short : Bool) (result : Result T E) → IsOk result → nat_lt 0 left ≡ true

@@ -2,7 +2,7 @@
 use Rattle.std.specs.Prelude.{◌≡◌, ℕ, ◌+◌, ◌≤◌, List, ◌++◌, length, Option}
 use Rattle.std.specs.Io.KnownBytes.{Consumes, IsAtEnd}
 use Rattle.sig_json.specs.declared.limits.TheConstants.{LAST_NUMBER}
-use Rattle.sig_outside.specs.Causes.{Rose}
+use Rattle.sig_outside.specs.Causes.{Raised}
 use Rattle.sig_outside.specs.declared.line.LineFault.{LineFault}
 use Rattle.sig_outside.specs.declared.line.LineFault.TheVariants.{Failed, Endless, Memory}
 
@@ -37,8 +37,9 @@ pub record IsPiece (n ask : ℕ) (old new : List ℕ) (left left' : Option (List
   pub bound : n ≤ ask
   pub ends : n ≡ 0 → IsAtEnd left'
 
--- why no piece was taken: the source failed and its count rose, or no further byte is counted
+-- why no piece was taken, by the count of the source's faults: it failed, and its count is raised by one; or no further
+-- byte is counted, or memory ended, and its count stays
 abbrev pub Halts : LineFault → ℕ → ℕ → ℕ → Type 0
-Halts Failed taken before now = Rose before now
-Halts (Endless n) taken before now = (n ≡ LAST_NUMBER) × (taken ≡ LAST_NUMBER)
-Halts Memory taken before now = Unit {0}
+Halts Failed taken before now = Raised before now
+Halts (Endless n) taken before now = (n ≡ LAST_NUMBER) × (taken ≡ LAST_NUMBER) × (now ≡ before)
+Halts Memory taken before now = now ≡ before

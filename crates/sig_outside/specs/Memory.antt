@@ -9,7 +9,8 @@ pub record Given : Type 0 where
   pub calls : ℕ
   pub faults : ℕ
 
--- of a sink in memory: what was written, at most how many bytes a call takes, and the numbers of the calls that take nothing and that fail, with how many were made, stalled and failed
+-- of a sink in memory: what was written, at most how many bytes a call takes, and the numbers of the calls that take
+-- nothing and that are to fail, with how many were made, stalled and failed, and how many of these were refused memory
 pub record Taken : Type 0 where
   pub written : List ℕ
   pub piece : ℕ
@@ -18,3 +19,4 @@ pub record Taken : Type 0 where
   pub calls : ℕ
   pub stalls : ℕ
   pub faults : ℕ
+  pub refused : ℕ

@@ -1,4 +1,4 @@
-ghost use Rattle.std.specs.Prelude.{◌≡◌, ◌≤◌, ◌<◌, ◌+◌, ◌^◌, ℕ, List, [], ◌∷◌, ◌++◌, length, take, drop, IfOk, IfErr, MatchOption, MatchResult};
+ghost use Rattle.std.specs.Prelude.{◌≡◌, ◌≤◌, ◌<◌, ◌+◌, ◌^◌, ℕ, List, [], ◌∷◌, ◌++◌, length, take, drop, IfOk, IfErr, OnOk, MatchOption, MatchResult};
 ghost use Rattle.sig_json.specs.declared.limits.TheConstants.{LAST_NUMBER};
 ghost use Rattle.std.specs.Io.KnownBytes.{Consumes, IsAtEnd, Keeps};
 ghost use Rattle.sig_outside.specs.Held.{HasPiece, Halts, IsPiece};
@@ -79,6 +79,7 @@ impl Held {
         ensures counted { self.new.taken ≤ LAST_NUMBER }
         ensures beside { S.beside source.new ≡ S.beside source.old }
         ensures later { S.faults source.old ≤ S.faults source.new }
+        ensures steady { OnOk result (S.faults source.new ≡ S.faults source.old) }
     {
         if self.taken == LAST_NUMBER {
             return Err(LineFault::Endless(LAST_NUMBER));
@@ -115,6 +116,7 @@ fn take_piece<S: Source>(
     ensures halts { (taken : ℕ) → taken < LAST_NUMBER → IfErr result (λ e. Halts e taken (S.faults source.old) (S.faults source.new)) }
     ensures beside { S.beside source.new ≡ S.beside source.old }
     ensures later { S.faults source.old ≤ S.faults source.new }
+    ensures steady { OnOk result (S.faults source.new ≡ S.faults source.old) }
 {
     let old = bytes.len();
     bytes.resize(old + ask, 0)?;

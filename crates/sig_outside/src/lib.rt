@@ -25,6 +25,7 @@ mod memory_disk;
 mod memory_sink;
 mod memory_source;
 mod mode;
+mod planned;
 mod reach;
 mod sink;
 mod source;

@@ -1,6 +1,6 @@
 ghost use Rattle.std.specs.Prelude.{◌≡◌, ◌≤◌, ◌⊎◌, ℕ, [], true, IfOk, IfSome, IsErrOf};
 ghost use Rattle.sig_json.specs.declared.limits.TheConstants.{LAST_NUMBER};
-ghost use Rattle.sig_outside.specs.Causes.{Rose};
+ghost use Rattle.sig_outside.specs.Causes.{Raised};
 ghost use Rattle.sig_outside.specs.Reading.{IsFailing, IsOpen, IsSpent};
 ghost use Rattle.sig_outside.specs.Lines.{Gives, Stops, has_lf, number_after};
 ghost use Rattle.sig_outside.specs.Modes.{mode_once, number_once};
@@ -50,7 +50,7 @@ impl Lines {
     /// The next line of the source, without the LF that ends it and one CR before that; the last line may lack its LF.
     /// It has at most `room` bytes, and is `Long` exactly where it has more.
     ///
-    /// `Failed` comes where the source failed, and from then on. `Endless` comes exactly where a further byte is wanted
+    /// `Failed` comes exactly where the source failed, which raises its count of faults by one, and from then on. `Endless` comes exactly where a further byte is wanted
     /// and `LAST_NUMBER` bytes were taken. `Memory` comes for want of memory, and from then on.
     pub fn next<S: Source>(&mut self, source: &mut S, room: usize) -> Result<Line, LineFault>
         ensures line { IfOk result (λ line. IfSome (S.left source.old) (λ left. Gives room line self.old self.new left (S.left source.new))) }
@@ -58,16 +58,17 @@ impl Lines {
         ensures stays { IfOk result (λ line. IsOpen self.old × IsOpen self.new) }
 
         // A line that is held whole is given without asking the source.
-        ensures held { has_lf self.old.kept ≡ true → (S.left source.new ≡ S.left source.old) × (S.faults source.new ≡ S.faults source.old) }
-        ensures failed { IsErrOf result LineFault.Failed → ((IsOpen self.old × Rose (S.faults source.old) (S.faults source.new)) ⊎ IsFailing self.old) }
+        ensures held { has_lf self.old.kept ≡ true → source.new ≡ source.old }
+        ensures failed { IsErrOf result LineFault.Failed → ((IsOpen self.old × Raised (S.faults source.old) (S.faults source.new)) ⊎ IsFailing self.old) }
         ensures failing { IsErrOf result LineFault.Failed → IsFailing self.new }
-        ensures stays_failing { IsFailing self.old → IsErrOf result LineFault.Failed × (S.faults source.new ≡ S.faults source.old) }
+        ensures stays_failing { IsFailing self.old → IsErrOf result LineFault.Failed × (source.new ≡ source.old) }
         ensures stopped { IsErrOf result LineFault.Failed → IsOpen self.old → IfSome (S.left source.old) (λ left. Stops self.old self.new left (S.left source.new)) }
         ensures endless { (n : ℕ) → IsErrOf result (LineFault.Endless n) → (n ≡ LAST_NUMBER) × (self.new.taken ≡ LAST_NUMBER) }
         ensures endless_stopped { (n : ℕ) → IsErrOf result (LineFault.Endless n) → IfSome (S.left source.old) (λ left. Stops self.old self.new left (S.left source.new)) }
         ensures spent { IsErrOf result LineFault.Memory → IsSpent self.new }
-        ensures stays_spent { IsSpent self.old → IsErrOf result LineFault.Memory }
+        ensures stays_spent { IsSpent self.old → IsErrOf result LineFault.Memory × (source.new ≡ source.old) }
         ensures later { S.faults source.old ≤ S.faults source.new }
+        ensures steady { (IsErrOf result LineFault.Failed → ⊥) → S.faults source.new ≡ S.faults source.old }
         ensures beside { S.beside source.new ≡ S.beside source.old }
     {
         match self.mode {

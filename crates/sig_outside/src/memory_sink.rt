@@ -1,14 +1,16 @@
-ghost use Rattle.std.specs.Prelude.{◌≡◌, ◌≤◌, ◌+◌, ◌-◌, ◌^◌, List, [], ℕ, length, min, max, Option, Some, None, IfOk, OnErr, IsErr, IsTrue, nat_eq, if◌then◌else◌};
+ghost use Rattle.std.specs.Prelude.{◌≡◌, ◌≤◌, ◌+◌, ◌-◌, ◌^◌, List, [], ℕ, length, min, max, Option, Some, None, IfOk, OnErr, OnOk, IsErr, nat_eq, true, false, if◌then◌else◌};
 ghost use Rattle.std.specs.List.{list_any};
 ghost use Rattle.std.specs.Io.KnownBytes.{WriteAppends};
-ghost use Rattle.sig_outside.specs.Causes.{Beside, HasCause, Stalls};
+ghost use Rattle.sig_outside.specs.Causes.{Beside, HasCause, Raised, Stalls};
 
+use crate::planned::is_planned;
 use crate::{Failed, Sink};
 use sig_json::{Bytes, Items};
 use std::alloc::Global;
 use std::marker::Model;
 
-/// A sink of bytes in memory. It tells what is written. A call that is refused memory fails.
+/// A sink of bytes in memory. It tells what is written. A call that is refused memory fails; it is counted among those
+/// that failed, and apart too.
 #[derive(Debug, Drop)]
 pub struct MemSink {
     bytes: Bytes,
@@ -18,6 +20,7 @@ pub struct MemSink {
     calls: u64,
     stalls: u64,
     faults: u64,
+    refused: u64,
 }
 
 impl Model for MemSink {
@@ -26,7 +29,7 @@ impl Model for MemSink {
 
     ghost Value = { Taken };
 
-    ghost view = { λ s. record { written = s.bytes; piece = s.piece; idle = s.idle; failing = s.failing; calls = s.calls; stalls = s.stalls; faults = s.faults } };
+    ghost view = { λ s. record { written = s.bytes; piece = s.piece; idle = s.idle; failing = s.failing; calls = s.calls; stalls = s.stalls; faults = s.faults; refused = s.refused } };
 
     ghost invariant = { λ s. 0 < s.piece };
 }
@@ -35,14 +38,14 @@ impl MemSink {
     /// A sink that takes each piece whole, and the numbers, from 0, of the calls that are to fail. It grows with this
     /// allocator.
     pub fn new(alloc: Global, failing: Items<u64>) -> MemSink
-        ensures { result ≡ record { written = []; piece = usize.MAX; idle = []; failing = failing; calls = 0; stalls = 0; faults = 0 } }
+        ensures { result ≡ record { written = []; piece = usize.MAX; idle = []; failing = failing; calls = 0; stalls = 0; faults = 0; refused = 0 } }
     {
         MemSink::in_pieces(alloc, usize::MAX, Items::of(Vec::new(alloc)), failing)
     }
 
     /// A sink that takes at most so many bytes a call, one at least, and none at all in the calls of these numbers.
     pub fn in_pieces(alloc: Global, piece: usize, idle: Items<u64>, failing: Items<u64>) -> MemSink
-        ensures { result ≡ record { written = []; piece = max piece 1; idle = idle; failing = failing; calls = 0; stalls = 0; faults = 0 } }
+        ensures { result ≡ record { written = []; piece = max piece 1; idle = idle; failing = failing; calls = 0; stalls = 0; faults = 0; refused = 0 } }
     {
         MemSink {
             bytes: Bytes::new(alloc),
@@ -52,6 +55,7 @@ impl MemSink {
             calls: 0,
             stalls: 0,
             faults: 0,
+            refused: 0,
         }
     }
 
@@ -78,13 +82,17 @@ impl Sink for MemSink {
         ensures stalls { IfOk result (λ n. Stalls self.old.stalls self.new.stalls n bytes.now) }
         ensures flows { OnErr result (self.new.stalls ≡ self.old.stalls) }
         ensures cause { HasCause self.old.faults self.new.faults result }
-        ensures fails { IsTrue (list_any (nat_eq self.old.calls) self.old.failing) → IsErr result }
+
+        // It fails exactly where that is planned, and where it is refused memory, which is counted apart.
+        ensures planned { list_any (nat_eq self.old.calls) self.old.failing ≡ true → IsErr result × (self.new.refused ≡ self.old.refused) }
+        ensures unplanned { list_any (nat_eq self.old.calls) self.old.failing ≡ false → OnErr result (Raised self.old.refused self.new.refused) }
+        ensures taken { OnOk result (self.new.refused ≡ self.old.refused) }
         ensures takes { IfOk result (λ n. n ≡ (if list_any (nat_eq self.old.calls) self.old.idle then 0 else min self.old.piece (length bytes.now))) }
         ensures counts { self.new.calls ≡ min (self.old.calls + 1) (2 ^ 64 - 1) }
         ensures stays { (self.new.piece ≡ self.old.piece) × (self.new.idle ≡ self.old.idle) × (self.new.failing ≡ self.old.failing) }
     {
-        let fails = self.failing.as_slice().contains(&self.calls);
-        let idles = self.idle.as_slice().contains(&self.calls);
+        let fails = is_planned(&self.failing, self.calls);
+        let idles = is_planned(&self.idle, self.calls);
         self.calls = self.calls.saturating_add(1);
         if fails {
             self.faults = self.faults.saturating_add(1);
@@ -93,6 +101,7 @@ impl Sink for MemSink {
         let room = if idles { 0 } else { self.piece };
         let front = bytes.split_at(bytes.len().min(room)).0;
         if self.bytes.add(front).is_err() {
+            self.refused = self.refused.saturating_add(1);
             self.faults = self.faults.saturating_add(1);
             return Err(Failed);
         }

@@ -4,6 +4,7 @@ ghost use Rattle.std.specs.Io.{ReadsAtMost};
 ghost use Rattle.std.specs.Io.KnownBytes.{ReadConsumes};
 ghost use Rattle.sig_outside.specs.Causes.{Beside, HasCause};
 
+use crate::planned::is_planned;
 use crate::{Failed, Source};
 use sig_json::{Bytes, Items};
 use std::marker::Model;
@@ -69,7 +70,7 @@ impl Source for MemSource {
         ensures counts { self.new.calls ≡ min (self.old.calls + 1) (2 ^ 64 - 1) }
         ensures stays { (self.new.piece ≡ self.old.piece) × (self.new.failing ≡ self.old.failing) }
     {
-        let fails = self.failing.as_slice().contains(&self.calls);
+        let fails = is_planned(&self.failing, self.calls);
         self.calls = self.calls.saturating_add(1);
         if fails {
             self.faults = self.faults.saturating_add(1);

@@ -31,13 +31,14 @@ pub fn read_line<S: Source>(
 ) -> Result<Line, LineFault>
     requires { before ≤ LAST_NUMBER }
     ensures line { IfOk result (λ line. Yields room before line held.old held.new (S.left source.old) (S.left source.new)) }
-    ensures asks { has_lf held.old.kept ≡ true → (S.left source.new ≡ S.left source.old) × (S.faults source.new ≡ S.faults source.old) }
+    ensures asks { has_lf held.old.kept ≡ true → source.new ≡ source.old }
     ensures halts { IfErr result (λ e. Halts e held.new.taken (S.faults source.old) (S.faults source.new)) }
     ensures within { IfErr result (λ e. HaltsWithin e held.old held.new (S.left source.old) (S.left source.new)) }
     ensures room { OnErr result (length held.new.kept + held.old.taken ≤ length held.old.kept + held.new.taken) }
     ensures counted { held.new.taken ≤ LAST_NUMBER }
     ensures beside { S.beside source.new ≡ S.beside source.old }
     ensures later { S.faults source.old ≤ S.faults source.new }
+    ensures steady { OnOk result (S.faults source.new ≡ S.faults source.old) }
 {
     match find_end(held, source, room) {
         Err(fault) => Err(fault),
@@ -63,13 +64,14 @@ pub fn read_line<S: Source>(
 fn find_end<S: Source>(held: &mut Held, source: &mut S, room: usize) -> Result<Reach, LineFault>
     ensures grows { IfOk result (λ r. Grows held.old held.new (S.left source.old) (S.left source.new)) }
     ensures reaches { IfOk result (λ r. Reaches r room held.new.kept (S.left source.new)) }
-    ensures asks { has_lf held.old.kept ≡ true → (S.left source.new ≡ S.left source.old) × (S.faults source.new ≡ S.faults source.old) × (IsOkAnd result IsNewline) }
+    ensures asks { has_lf held.old.kept ≡ true → (source.new ≡ source.old) × (IsOkAnd result IsNewline) }
     ensures halts { IfErr result (λ e. Halts e held.new.taken (S.faults source.old) (S.faults source.new)) }
     ensures within { IfErr result (λ e. HaltsWithin e held.old held.new (S.left source.old) (S.left source.new)) }
     ensures room { OnErr result (length held.new.kept + held.old.taken ≤ length held.old.kept + held.new.taken) }
     ensures counted { held.new.taken ≤ LAST_NUMBER }
     ensures beside { S.beside source.new ≡ S.beside source.old }
     ensures later { S.faults source.old ≤ S.faults source.new }
+    ensures steady { OnOk result (S.faults source.new ≡ S.faults source.old) }
 {
     match newline_from(held.as_slice(), 0) {
         Some(at) => Ok(Reach::Newline(at)),
@@ -88,6 +90,7 @@ fn find_further<S: Source>(held: &mut Held, source: &mut S, room: usize) -> Resu
     ensures counted { held.new.taken ≤ LAST_NUMBER }
     ensures beside { S.beside source.new ≡ S.beside source.old }
     ensures later { S.faults source.old ≤ S.faults source.new }
+    ensures steady { OnOk result (S.faults source.new ≡ S.faults source.old) }
 {
     'pieces: loop {
         let searched = held.as_slice().len();
@@ -115,6 +118,7 @@ fn skip_line<S: Source>(held: &mut Held, source: &mut S) -> Result<(), LineFault
     ensures counted { held.new.taken ≤ LAST_NUMBER }
     ensures beside { S.beside source.new ≡ S.beside source.old }
     ensures later { S.faults source.old ≤ S.faults source.new }
+    ensures steady { OnOk result (S.faults source.new ≡ S.faults source.old) }
 {
     'pieces: loop {
         held.clear();

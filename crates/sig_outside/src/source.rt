@@ -7,8 +7,8 @@ use crate::Failed;
 
 /// What gives bytes.
 ///
-/// Its meanings: `left` is the rest of the input, where the source tells it; `faults` counts the calls that failed and
-/// never falls (it stands at 2^64 - 1); `beside` is the other direction of a link, and nothing of any other source.
+/// Its meanings: `left` is the rest of the input, where the source tells it; `faults` counts the calls that failed, each
+/// once (it stands at 2^64 - 1); `beside` is the other direction of a link, and nothing of any other source.
 pub trait Source {
     ghost left: { Self → Option (List ℕ) };
 
@@ -17,7 +17,8 @@ pub trait Source {
     ghost faults: { Self → ℕ };
 
     /// Takes bytes into the front of the buffer, and answers how many: 0 into a buffer with room only at the end of the
-    /// input. `Failed` comes only where the count of faults rose, and takes nothing.
+    /// input. The count of faults
+    /// stays where a call doesn't fail. `Failed` raises it by one, and takes nothing.
     fn take(&mut self, buf: &mut [u8]) -> Result<usize, Failed>
         ensures bound { ReadsAtMost result buf.new }
         ensures bytes { ReadConsumes (left self.old) (left self.new) result buf.new }

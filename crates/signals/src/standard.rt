@@ -1,9 +1,11 @@
 //! A reader as a source and a writer as a sink: the edge to the system, for standard input and standard output.
+//!
+//! A read or write that the system interrupts is tried again, and is no fault.
 
 ghost use Rattle.std.specs.Prelude.{◌≡◌, None};
 
 use sig_outside::{Failed, Sink, Source};
-use std::io::{Read, Write};
+use std::io::{ErrorKind, Read, Write};
 
 /// A source over a reader. What is left of it is what the reader tells: of standard input nothing.
 #[derive(Drop)]
@@ -30,13 +32,15 @@ impl<R: Read> Source for ReaderSource<R> {
     ghost faults = { λ s. s.faults };
 
     fn take(&mut self, buf: &mut [u8]) -> Result<usize, Failed> {
-        match self.reader.read(buf) {
-            Ok(count) => Ok(count),
-            Err(_) => {
-                self.faults = self.faults.saturating_add(1);
-                Err(Failed)
+        'tries: for _ in 0..u64::MAX {
+            match self.reader.read(buf) {
+                Ok(count) => return Ok(count),
+                Err(error) if error.kind() == ErrorKind::Interrupted => {}
+                Err(_) => break 'tries,
             }
         }
+        self.faults = self.faults.saturating_add(1);
+        Err(Failed)
     }
 }
 
@@ -73,17 +77,19 @@ impl<W: Write> Sink for WriterSink<W> {
     ghost stalls = { λ s. s.stalls };
 
     fn put(&mut self, bytes: &[u8]) -> Result<usize, Failed> {
-        match self.writer.write(bytes) {
-            Ok(count) => {
-                if count == 0 && !bytes.is_empty() {
-                    self.stalls = self.stalls.saturating_add(1);
+        'tries: for _ in 0..u64::MAX {
+            match self.writer.write(bytes) {
+                Ok(count) => {
+                    if count == 0 && !bytes.is_empty() {
+                        self.stalls = self.stalls.saturating_add(1);
+                    }
+                    return Ok(count);
                 }
-                Ok(count)
-            }
-            Err(_) => {
-                self.faults = self.faults.saturating_add(1);
-                Err(Failed)
+                Err(error) if error.kind() == ErrorKind::Interrupted => {}
+                Err(_) => break 'tries,
             }
         }
+        self.faults = self.faults.saturating_add(1);
+        Err(Failed)
     }
 }

@@ -7,7 +7,7 @@ use Rattle.sig_outside.proofs.ReachLemmas.{halts_passed, skips_end, skips_newlin
 use Rattle.sig_outside.proofs.reach.skip_line.Goals as goal
 
 pub pieces-init : goal.pieces-init
-pieces-init g c = record { passed = (draws_none _ _, All-nil (λ b. (b == 10) ≡ false)); beside = refl; later = omega arith }
+pieces-init g c = record { passed = (draws_none _ _, All-nil (λ b. (b == 10) ≡ false)); beside = refl; steady = refl }
 
 pub returns-in-Err-clause-within : goal.returns-in-Err-clause-within
 returns-in-Err-clause-within g c =
@@ -39,5 +39,5 @@ pieces-preserved g c =
     record {
       passed = (draws_then _ c.pieces.held _ _ _ _ before.passed.0 q, All-append (λ b. (b == 10) ≡ false) before.passed.0.more piece.grows.draws.more before.passed.1 (subst HasNoLf same c.in_default.ensures.none));
       beside = c.in-Ok.ensures.beside ∙ before.beside;
-      later = omega arith;
+      steady = c.in-Ok.ensures.steady ∙ before.steady;
     }

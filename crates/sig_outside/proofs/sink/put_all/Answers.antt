@@ -1,4 +1,4 @@
-use Rattle.std.proofs.Common.{◌++◌, take, arith, ◌∙◌, ap, sym, append_assoc, take-append-drop}
+use Rattle.std.proofs.Common.{◌++◌, take, ◌∙◌, ap, sym, append_assoc, take-append-drop}
 use Rattle.std.proofs.KnownBytes.{Appends-trans}
 use Rattle.sig_outside.proofs.CauseLemmas.{stalls_moved}
 use Rattle.sig_outside.proofs.sink.put_all.Goals as goal
@@ -11,6 +11,6 @@ loop-rest-preserved g c =
     record {
       so_far = (before.so_far.0 ++ taken, whole, Appends-trans _ _ _ _ _ before.so_far.2 c.in-Ok.ensures.bytes);
       beside = c.in-Ok.ensures.beside ∙ before.beside;
-      later = omega arith;
+      steady = c.in-Ok.ensures.cause.stays ∙ before.steady;
       flows = stalls_moved _ _ c.in-Ok.count c.loop-rest.rest.now c.in-Ok.ensures.stalls c.in-Ok.count-test.1 ∙ before.flows;
     }
