@@ -1,10 +1,10 @@
 #!/usr/bin/env bash
 # Refuses each allocation of a run in turn: of the stored run of `fold`, and of the runs of `fold` and `replay` over the
-# examples. Each run has to end with the whole text, or with status 9 behind a front of it and the last line of that
+# examples. Each run has to end with the whole text, or with status 9 after a prefix of it and the last line of that
 # status.
 #
 # The built program gets its memory by the C library's `malloc` and `realloc` alone. A small library that is loaded
-# before that one counts these calls, and refuses those of the given numbers: each alone, and each with all behind it.
+# before that one counts these calls, and refuses those of the given numbers: each alone, and each with all after it.
 set -eu
 cd "$(dirname "$0")/.."
 # Builds the program where that has to be.
@@ -48,8 +48,8 @@ ends_well() { # STATUS
     case $1 in
     0) cmp "$folder/made" "$folder/whole" ;;
     9)
-        head -n -1 "$folder/made" >"$folder/front"
-        [ "$(tail -n 1 "$folder/made")" = 'signals: memory' ] && cmp -n "$(stat -c %s "$folder/front")" "$folder/front" "$folder/whole"
+        head -n -1 "$folder/made" >"$folder/prefix"
+        [ "$(tail -n 1 "$folder/made")" = 'signals: memory' ] && cmp -n "$(stat -c %s "$folder/prefix")" "$folder/prefix" "$folder/whole"
         ;;
     *) false ;;
     esac
@@ -71,7 +71,7 @@ check_run() { # INPUT WORDS..
             ended[$status]=$((ended[$status] + 1))
         done
     done
-    echo "$1: $calls allocations, each refused alone and with all behind it: status 0 ${ended[0]} times, 9 ${ended[9]} times"
+    echo "$1: $calls allocations, each refused alone and with all after it: status 0 ${ended[0]} times, 9 ${ended[9]} times"
 }
 
 mapfile -t words <crates/signals/args
