@@ -4,6 +4,7 @@
 set -eu
 cd "$(dirname "$0")/.."
 python3 -B tools/sign_fold.py examples | cmp - examples/tokens.txt
+python3 -B tools/sign_fold.py guard | cmp - crates/sig_guard/stdin
 python3 -B tools/sign_fold.py source | tr -d ' \n' | cmp - <(tr -d ' \n' <crates/signals/src/tests/tokens.rt)
 python3 -B tools/sign_tokens.py source | tr -d ' \n' | cmp - <(tr -d ' \n' <crates/sig_set/src/tests/tokens.rt)
 

@@ -3,13 +3,13 @@
 ghost use Rattle.std.specs.Prelude.{◌≡◌, None, OnErr, OnOk, Some};
 ghost use Rattle.sig_json.specs.Answers.{Answers};
 ghost use Rattle.sig_sessions.specs.Verdicts.{verdict_of};
-ghost use Rattle.sig_set.specs.Checks.{outcome};
-ghost use Rattle.sig_set.specs.Judgement.{judged, result_of};
-ghost use Rattle.sig_guard.specs.Guard.{rows_after};
+ghost use Rattle.sig_set.specs.Judgement.{judged};
+ghost use Rattle.sig_guard.specs.Guard.{answer_to, pairs_after, rows_after};
 
+use sig_inbox::{Found, Pair, Seen};
 use sig_json::Text;
 use sig_sessions::Table;
-use sig_set::{Refusal, Trust, judge};
+use sig_set::{Claims, Refusal, Trust, judge};
 use sig_subject::Subject;
 use std::alloc::Global;
 
@@ -24,25 +24,35 @@ pub struct Guard {
     pub issuer: Text,
     /// The session that it guards.
     pub session: Subject,
-    /// What the tokens made known.
+    /// The tokens that it took.
+    pub seen: Seen,
+    /// What they made known.
     pub table: Table,
 }
 
 impl Guard {
-    /// Judges a token. One that is valid changes the rows as its claims say; one that is refused leaves them, and so does
-    /// `Memory`.
-    pub fn take(&mut self, token: &[u8]) -> Result<(), Refusal>
-        ensures answer { Answers Refusal.Memory result (outcome (result_of (judged self.old.trust (Some self.old.issuer) None token.now))) }
-        ensures taken { OnOk result (self.new.table.rows ≡ rows_after (judged self.old.trust (Some self.old.issuer) None token.now) self.old.table.rows) }
-        ensures refused { OnErr result (self.new.table.rows ≡ self.old.table.rows) }
+    /// Judges a token, and takes it where it is valid and new. A repeat has no second effect: an old token that is
+    /// brought again must not undo what a later one told. A refusal, `Memory` among them, leaves all as it was.
+    pub fn take(&mut self, token: &[u8]) -> Result<Found, Refusal>
+        ensures answer { Answers Refusal.Memory result (answer_to (judged self.old.trust (Some self.old.issuer) None token.now) self.old.seen) }
+        ensures rows { OnOk result (self.new.table.rows ≡ rows_after (judged self.old.trust (Some self.old.issuer) None token.now) self.old.seen self.old.table.rows) }
+        ensures pairs { OnOk result (self.new.seen ≡ pairs_after (judged self.old.trust (Some self.old.issuer) None token.now) self.old.seen) }
+        ensures err_rows { OnErr result (self.new.table.rows ≡ self.old.table.rows) }
+        ensures err_pairs { OnErr result (self.new.seen ≡ self.old.seen) }
         ensures trust { self.new.trust ≡ self.old.trust }
         ensures issuer { self.new.issuer ≡ self.old.issuer }
         ensures session { self.new.session ≡ self.old.session }
     {
         let claims = judge(self.alloc, &self.trust, Some(&self.issuer), None, token)?;
         let change = self.table.prepare(&claims)?;
-        self.table.commit(change);
-        Ok(())
+        let Claims { iss, jti, .. } = claims;
+        match self.seen.add(Pair { iss, jti })? {
+            Found::There => Ok(Found::There),
+            Found::Added => {
+                self.table.commit(change);
+                Ok(Found::Added)
+            }
+        }
     }
 
     /// Whether the table lets the session go on.

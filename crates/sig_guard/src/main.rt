@@ -3,14 +3,16 @@
 //!     line -> token -> judged -> rows of the table -> verdict on the session -> printed line
 //!
 //! Each line of standard input is a token. The application trusts one issuer with one key, and guards the session
-//! `s-77`. It stands on `sig_set` for the judgement and on `sig_sessions` for the table.
+//! `s-77`. It stands on `sig_set` for the judgement, on `sig_inbox` for the tokens that it took, and on `sig_sessions` for
+//! the table.
 //!
-//! Left out: that a repeat has no second effect, and a journal. `sig_inbox` and the receiver have both.
+//! Left out: that what it took outlives the program, and tokens that come over a link.
 #![tactic(auto)]
 
 mod guard;
 
 use crate::guard::Guard;
+use sig_inbox::{Found, Seen};
 use sig_json::{Bytes, Items, Memory, Text};
 use sig_jws::Key;
 use sig_sessions::Table;
@@ -37,7 +39,8 @@ fn main(rt: HostRuntime) -> io::Result<()> {
 
 fn take(rt: &impl Print, guard: &mut Guard, token: &[u8]) -> io::Result<()> {
     match guard.take(token) {
-        Ok(()) => println!(rt; "taken")?,
+        Ok(Found::Added) => println!(rt; "taken")?,
+        Ok(Found::There) => println!(rt; "seen")?,
         Err(Refusal::Coded { code, spot }) => {
             println!(rt; "refused {} {}", code.as_str(), spot.as_str())?;
         }
@@ -60,6 +63,7 @@ fn new_guard(alloc: Global) -> Result<Guard, Memory> {
         trust: trust(alloc)?,
         issuer: Text::of(alloc, ISSUER)?,
         session: session(alloc)?,
+        seen: Seen::new(alloc),
         table: Table::new(alloc),
     })
 }
