@@ -3,7 +3,7 @@
 ghost use Rattle.std.specs.Prelude.{◌≡◌, None, OnErr, OnOk, Some};
 ghost use Rattle.sig_json.specs.Answers.{Answers};
 ghost use Rattle.sig_sessions.specs.Verdicts.{verdict_of};
-ghost use Rattle.sig_set.specs.Judgement.{judged};
+ghost use Rattle.sig_set.specs.Judgement.{judged, result_of};
 ghost use Rattle.sig_guard.specs.Guard.{answer_to, pairs_after, rows_after};
 
 use sig_inbox::{Found, Pair, Seen};
@@ -34,9 +34,9 @@ impl Guard {
     /// Judges a token, and takes it where it is valid and new. A repeat has no second effect: an old token that is
     /// brought again must not undo what a later one told. A refusal, `Memory` among them, leaves all as it was.
     pub fn take(&mut self, token: &[u8]) -> Result<Found, Refusal>
-        ensures answer { Answers Refusal.Memory result (answer_to (judged self.old.trust (Some self.old.issuer) None token.now) self.old.seen) }
-        ensures rows { OnOk result (self.new.table.rows ≡ rows_after (judged self.old.trust (Some self.old.issuer) None token.now) self.old.seen self.old.table.rows) }
-        ensures pairs { OnOk result (self.new.seen ≡ pairs_after (judged self.old.trust (Some self.old.issuer) None token.now) self.old.seen) }
+        ensures answer { Answers Refusal.Memory result (answer_to self.old.seen (result_of (judged self.old.trust (Some self.old.issuer) None token.now))) }
+        ensures rows { OnOk result (self.new.table.rows ≡ rows_after self.old.seen self.old.table.rows (result_of (judged self.old.trust (Some self.old.issuer) None token.now))) }
+        ensures pairs { OnOk result (self.new.seen ≡ pairs_after self.old.seen (result_of (judged self.old.trust (Some self.old.issuer) None token.now))) }
         ensures err_rows { OnErr result (self.new.table.rows ≡ self.old.table.rows) }
         ensures err_pairs { OnErr result (self.new.seen ≡ self.old.seen) }
         ensures trust { self.new.trust ≡ self.old.trust }
