@@ -1,4 +1,4 @@
-use Rattle.std.proofs.Common.{◌≡◌, ◌∙◌, ap, sym, Ok}
+use Rattle.std.proofs.Common.{◌∙◌, ap, sym, Ok}
 use Rattle.sig_guard.specs.Guard.{answer_to, pairs_after, rows_after}
 use Rattle.sig_guard.proofs.GuardLemmas.{rows_after-new, rows_after-there}
 use Rattle.sig_sessions.specs.Changes.{applied}
