@@ -42,7 +42,7 @@ pub use members::{MemberKind, PayloadFault, optional_member, required_member};
 pub use memory::{Memory, MemoryRefusal};
 pub use payload::{Payload, put_member, put_optional_member, put_value, value_spelled};
 pub use reading::{JsonFault, list_of, object_of, present, read, text_of, whole_of};
-pub use same::Same;
+pub use same::{Same, same_slices};
 pub use serde_json::Value;
 pub use text::Text;
 pub use threads::crosses_threads;

@@ -43,7 +43,8 @@ impl<T: Same> Same for Items<T> {
     }
 }
 
-fn same_slices<T: Same>(a: &[T], b: &[T]) -> bool
+/// Whether both lists have the same values in the same order.
+pub fn same_slices<T: Same>(a: &[T], b: &[T]) -> bool
     ensures { IsTrue result ↔ (a.now ≡ b.now) }
 {
     if a.len() != b.len() {

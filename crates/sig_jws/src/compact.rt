@@ -9,8 +9,8 @@ ghost use Rattle.sig_jws.specs.Compact.{AreParts, cut_at_dots, decoded, dot, par
 use crate::mac::{MAC_BYTES, hmac, is_mac};
 use base64::engine::general_purpose::URL_SAFE_NO_PAD;
 use base64::{DecodeAllocError, encoded_len};
-use sig_json::{Bytes, Copied, Memory, Same};
-use std::alloc::{AllocError, AllocFailed, Global};
+use sig_json::{Bytes, Copied, Memory, MemoryRefusal, Same};
+use std::alloc::Global;
 use thiserror::Error;
 
 /// A text in compact form, decoded: what its three parts hold, and the text that the MAC covers.
@@ -46,32 +46,12 @@ pub enum SplitFault {
     Memory,
 }
 
-impl From<AllocError> for SplitFault {
+impl<R: MemoryRefusal> From<R> for SplitFault {
     ghost use Rattle.sig_jws.specs.declared.compact.SplitFault.TheVariants.{Memory};
 
     ghost from_gives = { λ _ e. e ≡ Memory };
 
-    fn from(_error: AllocError) -> SplitFault {
-        SplitFault::Memory
-    }
-}
-
-impl<T: Drop> From<AllocFailed<T>> for SplitFault {
-    ghost use Rattle.sig_jws.specs.declared.compact.SplitFault.TheVariants.{Memory};
-
-    ghost from_gives = { λ _ e. e ≡ Memory };
-
-    fn from(_error: AllocFailed<T>) -> SplitFault {
-        SplitFault::Memory
-    }
-}
-
-impl From<Memory> for SplitFault {
-    ghost use Rattle.sig_jws.specs.declared.compact.SplitFault.TheVariants.{Memory};
-
-    ghost from_gives = { λ _ e. e ≡ Memory };
-
-    fn from(_error: Memory) -> SplitFault {
+    fn from(_refusal: R) -> SplitFault {
         SplitFault::Memory
     }
 }

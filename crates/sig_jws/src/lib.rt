@@ -15,9 +15,9 @@ mod compact;
 mod key;
 pub mod laws;
 mod mac;
-mod moving;
 #[cfg(test)]
 mod tests;
+mod threads;
 
 pub use compact::{Compact, SplitFault, sign, split, verifies};
 pub use key::{Key, key_of};

@@ -11,7 +11,8 @@ use Rattle.uuid.specs.Text.{hyphenated_text, lower}
 use Rattle.uuid.proofs.TextLemmas.{hyphenated_ascii}
 use Rattle.sig_json.specs.declared.limits.TheConstants.{LAST_NUMBER}
 use Rattle.sig_event.specs.declared.claims.Claims.{Claims}
-use Rattle.sig_set.specs.Written.{IsProperClaims, audience_data, payload_of, without_fraction}
+use Rattle.sig_json.specs.Canon.{without_fraction}
+use Rattle.sig_set.specs.Written.{IsProperClaims, audience_data, payload_of}
 use Rattle.serde_json.specs.Data.{Data, depth, items_depth, null, string}
 use Rattle.serde_json.specs.Read.{max_depth}
 use Rattle.serde_json.specs.View.{items_of}

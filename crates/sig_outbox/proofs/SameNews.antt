@@ -13,7 +13,7 @@ use Rattle.sig_event.specs.declared.event_fault.EventFault.{EventFault}
 use Rattle.sig_event.specs.Events.{IsProperEvent, event_of, payload_of, uri_of}
 use Rattle.sig_event.proofs.CanonicalEvents.{writes_canonical}
 use Rattle.sig_event.proofs.ReadsEvents.{reads_events}
-use Rattle.sig_set.proofs.ProperClaims.{whole}
+use Rattle.sig_json.proofs.Fractions.{canonical_whole}
 use Rattle.sig_outbox.specs.History.{News}
 use Rattle.sig_outbox.specs.Laws.{SameNewsAreEqual}
 use Rattle.sig_outbox.specs.Table.{event_text, is_same_news}
@@ -27,7 +27,7 @@ ok_same : (e f : Event) → (let one : Result Event EventFault = Ok e in one ≡
 ok_same e f h = cc
 
 whole_text : (e : Event) (s : Subject) → IsProperEvent e s → event_text e ≡ compact_text (payload_of e)
-whole_text e s proper = ap (λ b. compact_text (if b then null else payload_of e)) (whole (payload_of e) (writes_canonical e s proper))
+whole_text e s proper = ap (λ b. compact_text (if b then null else payload_of e)) (canonical_whole (payload_of e) (writes_canonical e s proper))
 
 same_event : (e f : Event) (s : Subject) → IsProperEvent e s → IsProperEvent f s → uri_of e ≡ uri_of f
     → compact_text (payload_of e) ≡ compact_text (payload_of f) → e ≡ f

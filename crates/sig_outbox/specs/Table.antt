@@ -8,7 +8,8 @@ use Rattle.serde_json.specs.Written.{compact_text}
 use Rattle.sig_subject.specs.Matching.{is_identical}
 use Rattle.sig_event.specs.declared.event.Event.{Event}
 use Rattle.sig_event.specs.Events.{payload_of, uri_of}
-use Rattle.sig_set.specs.Written.{payload_text_of, without_fraction}
+use Rattle.sig_json.specs.Canon.{without_fraction}
+use Rattle.sig_set.specs.Written.{payload_text_of}
 use Rattle.sig_outbox.specs.declared.want.Want.{Want}
 use Rattle.sig_outbox.specs.declared.want.Delivery.TheVariants as delivery
 use Rattle.sig_outbox.specs.declared.configuration.StreamConf.{StreamConf}

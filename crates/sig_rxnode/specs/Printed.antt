@@ -5,7 +5,7 @@ use Rattle.serde_json.specs.Written.{compact_text}
 use Rattle.sig_subject.specs.declared.subject.Subject.{Subject}
 use Rattle.sig_subject.specs.Written.{subject_data}
 use Rattle.sig_set.specs.Spelled.{code_text, spot_text}
-use Rattle.sig_set.specs.Written.{without_fraction}
+use Rattle.sig_json.specs.Canon.{without_fraction}
 use Rattle.sig_sessions.specs.declared.row.Row.{Row}
 use Rattle.sig_sessions.specs.Spelled.{account_text, device_text, opt_text, session_text}
 use Rattle.sig_rxnode.specs.declared.heard.Heard.{Heard}

@@ -2,7 +2,7 @@ ghost use Rattle.std.specs.Prelude.{◌≡◌, ◌++◌, IfOk, OnOk, codes, deci
 ghost use Rattle.sig_rxnode.specs.Printed.{answer_text, counts_text, known_text, level_text, printed_subject, row_text, yes_or_no};
 
 use crate::Heard;
-use sig_json::{Bytes, Memory, Text, Value, canon, has_fraction};
+use sig_json::{Bytes, Listed, Memory, Text, Value, canon, has_fraction};
 use sig_sessions::Row;
 use sig_subject::{Subject, to_json};
 use std::alloc::Global;

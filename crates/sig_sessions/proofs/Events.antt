@@ -1,4 +1,4 @@
--- The events of a token, one behind the other on all rows, come to what all of them make of each row.
+-- The events of a token, one after the other on all rows, come to what all of them make of each row.
 use Rattle.std.proofs.Common.{◌≡◌, ◌∙◌, ap, sym, refl, List, [], ◌∷◌, ◌++◌, map, Bool, true, false, ◌||◌, ℕ, None, Some, if◌then◌else◌}
 use Rattle.std.specs.Prelude.{Option}
 use Rattle.std.specs.List.{list_any}

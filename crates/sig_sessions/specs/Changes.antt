@@ -1,10 +1,10 @@
 -- A change of the table that was made ready, and the table as it is held.
-use Rattle.std.specs.Prelude.{◌<◌, ℕ, zero, suc, List, [], ◌∷◌, ◌++◌, Option, Some, None, length, ⊤}
+use Rattle.std.specs.Prelude.{◌≡◌, ◌<◌, ℕ, zero, suc, List, [], ◌∷◌, ◌++◌, Option, Some, None, IfSome, false, length, ⊤}
 use Rattle.std.specs.Option.{option_to_list}
 use Rattle.sig_json.specs.Checks.{or_else}
 use Rattle.sig_sessions.specs.declared.row.Row.{Row}
 use Rattle.sig_sessions.specs.declared.update.Update.{Update}
-use Rattle.sig_sessions.specs.Table.{with_state}
+use Rattle.sig_sessions.specs.Table.{has_row, with_state}
 
 -- the rows, and for how many further ones there is room
 pub record Held : Type 0 where
@@ -45,7 +45,12 @@ abbrev pub HasRoom : ℕ → Option Row → Type 0
 HasRoom room None = ⊤
 HasRoom room (Some row) = 0 < room
 
--- the change can be made without memory: its places are there, and there is room
+-- the row to be added is of a subject that has none
+abbrev pub IsNew : List Row → Option Row → Type 0
+IsNew rows added = IfSome added (λ (row : Row). has_row row.subject rows ≡ false)
+
+-- the change can be made without memory: its places are there, and there is room; and it adds no second row of a subject
 pub record IsReady (held : Held) (change : Changed) : Type 0 where
   pub placed : ArePlaced (length held.rows) change.updates
   pub room : HasRoom held.room change.added
+  pub new : IsNew held.rows change.added

@@ -5,3 +5,4 @@ pub mod Walks
 pub mod Marks
 pub mod Verdicts
 pub mod Spelled
+pub mod Laws

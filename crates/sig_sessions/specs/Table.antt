@@ -1,5 +1,5 @@
 -- The session table: rows in order of first mention, as the effects of claims leave them (this product's own).
-use Rattle.std.specs.Prelude.{ℕ, List, [], ◌∷◌, ◌++◌, Bool, false, Option, None, map, if◌then◌else◌}
+use Rattle.std.specs.Prelude.{ℕ, List, [], ◌∷◌, ◌++◌, ◌&&◌, Bool, true, false, not, Option, None, map, if◌then◌else◌}
 use Rattle.std.specs.List.{list_any}
 use Rattle.sig_subject.specs.declared.subject.Subject.{Subject}
 use Rattle.sig_subject.specs.Matching.{is_covering, is_identical}
@@ -47,6 +47,11 @@ unseen subject = record {
 abbrev pub has_row : Subject → List Row → Bool
 has_row subject rows = list_any (λ (r : Row). is_identical r.subject subject) rows
 
+-- no two rows are of identical subjects
+abbrev pub are_distinct : List Row → Bool
+are_distinct [] = true
+are_distinct (r ∷ rows) = not (has_row r.subject rows) && are_distinct rows
+
 -- the rows with one of the subject: where there is none, it stands last and nothing is known of it
 abbrev pub with_row : Subject → List Row → List Row
 with_row subject rows = if has_row subject rows then rows else rows ++ unseen subject ∷ []
@@ -64,7 +69,7 @@ changed_where_covered subject e r = if is_covering subject r.subject then change
 abbrev pub after_event : Subject → List Row → Event → List Row
 after_event subject rows e = if has_effect e then map (changed_where_covered subject e) (with_row subject rows) else rows
 
--- after events, one behind the other
+-- after events, one after the other
 abbrev pub after_events : Subject → List Event → List Row → List Row
 after_events subject [] rows = rows
 after_events subject (e ∷ es) rows = after_events subject es (after_event subject rows e)

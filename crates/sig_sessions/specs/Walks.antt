@@ -15,7 +15,7 @@ abbrev pub last_told : List Event → Option (List ℕ)
 last_told [] = None
 last_told (e ∷ es) = or_else (last_told es) (told e)
 
--- the state after the events, one behind the other
+-- the state after the events, one after the other
 abbrev pub states_after : List Event → State → State
 states_after [] s = s
 states_after (e ∷ es) s = states_after es (state_after e s)

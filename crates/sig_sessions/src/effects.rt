@@ -40,7 +40,7 @@ pub(crate) fn state_after(event: &Event, state: State) -> State
     }
 }
 
-/// The state after the events, one behind the other.
+/// The state after the events, one after the other.
 pub(crate) fn states_after(events: &[Event], state: State) -> State
     ensures { result ≡ walk.states_after events.now state }
 {

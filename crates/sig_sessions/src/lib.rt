@@ -4,13 +4,15 @@
 //! of it, in order of first mention (`specs/Table`); an event changes the rows that its subject covers by a table
 //! (`specs/Effects`); a verdict on a subject is drawn from the rows that cover it (`specs/Verdicts`).
 //!
-//! Promised: a change that was made ready is taken in without memory, and leaves the rows as the table of effects says; a
-//! verdict is the defined one. Left out: that the effects and verdicts are wise. So far every row is looked at: a verdict
+//! Promised: a change that was made ready is taken in without memory, and leaves the rows as the table of effects says; no
+//! two rows are of identical subjects; a verdict is the defined one. Whatever the claims, rows keep place and subject, at
+//! most one is added, those that aren't covered stay, and proper rows stay proper (`laws`). Left out: that the effects and verdicts are wise. So far every row is looked at: a verdict
 //! goes over the rows once for the subject's own row, and once for each kind of mark that it looks for.
 #![tactic(auto)]
 
 mod changing;
 mod effects;
+pub mod laws;
 mod marks;
 mod preparing;
 mod row;
@@ -19,6 +21,7 @@ mod state;
 mod table;
 #[cfg(test)]
 mod tests;
+mod threads;
 mod update;
 mod verdict;
 

@@ -31,7 +31,7 @@ pub struct Row {
 }
 
 impl Row {
-    /// An equal row. Want of memory is its only error.
+    /// An equal row. Out of memory is its only error.
     pub fn copy(&self, alloc: Global) -> Result<Row, Memory>
         ensures { IfOk result (λ r. r ≡ self.now) }
     {

@@ -1,9 +1,8 @@
-//! What a row of the session table knows of its subject.
+//! What a row of the session table knows of its subject. Each is a closed list, in which a value's place is its number.
 
-ghost use Rattle.std.specs.Prelude.{◌≡◌};
-ghost use Rattle.sig_sessions.specs.Spelled.{account_text, device_text, opt_text, session_text};
+ghost use Rattle.sig_sessions.specs.Spelled.{account_text, accounts, device_text, devices, opt_text, opts, session_text, sessions};
 
-use sig_json::Same;
+use sig_json::{Listed, Same};
 
 /// A session.
 #[derive(Clone, Copy, Debug, PartialEq, Eq, Hash)]
@@ -53,11 +52,20 @@ pub enum Opt {
     Out,
 }
 
-impl Session {
-    /// Its text.
-    pub fn as_str(self) -> &'static str
-        ensures { result.now ≡ session_text self }
-    {
+impl Listed for Session {
+    ghost use Rattle.sig_sessions.specs.declared.standing.Session.TheVariants.{Unseen};
+
+    ghost values = { sessions };
+
+    ghost text_of = { session_text };
+
+    ghost otherwise = { Unseen };
+
+    fn values() -> &'static [Session] {
+        &[Session::Unseen, Session::Live, Session::Revoked]
+    }
+
+    fn as_str(&self) -> &'static str {
         match self {
             Session::Unseen => "unseen",
             Session::Live => "live",
@@ -66,11 +74,25 @@ impl Session {
     }
 }
 
-impl Account {
-    /// Its text.
-    pub fn as_str(self) -> &'static str
-        ensures { result.now ≡ account_text self }
-    {
+impl Listed for Account {
+    ghost use Rattle.sig_sessions.specs.declared.standing.Account.TheVariants.{Unseen};
+
+    ghost values = { accounts };
+
+    ghost text_of = { account_text };
+
+    ghost otherwise = { Unseen };
+
+    fn values() -> &'static [Account] {
+        &[
+            Account::Unseen,
+            Account::Enabled,
+            Account::Disabled,
+            Account::Purged,
+        ]
+    }
+
+    fn as_str(&self) -> &'static str {
         match self {
             Account::Unseen => "unseen",
             Account::Enabled => "enabled",
@@ -80,11 +102,20 @@ impl Account {
     }
 }
 
-impl Device {
-    /// Its text.
-    pub fn as_str(self) -> &'static str
-        ensures { result.now ≡ device_text self }
-    {
+impl Listed for Device {
+    ghost use Rattle.sig_sessions.specs.declared.standing.Device.TheVariants.{Unseen};
+
+    ghost values = { devices };
+
+    ghost text_of = { device_text };
+
+    ghost otherwise = { Unseen };
+
+    fn values() -> &'static [Device] {
+        &[Device::Unseen, Device::Compliant, Device::NotCompliant]
+    }
+
+    fn as_str(&self) -> &'static str {
         match self {
             Device::Unseen => "unseen",
             Device::Compliant => "compliant",
@@ -93,11 +124,20 @@ impl Device {
     }
 }
 
-impl Opt {
-    /// Its text.
-    pub fn as_str(self) -> &'static str
-        ensures { result.now ≡ opt_text self }
-    {
+impl Listed for Opt {
+    ghost use Rattle.sig_sessions.specs.declared.standing.Opt.TheVariants.{Unseen};
+
+    ghost values = { opts };
+
+    ghost text_of = { opt_text };
+
+    ghost otherwise = { Unseen };
+
+    fn values() -> &'static [Opt] {
+        &[Opt::Unseen, Opt::In, Opt::Leaving, Opt::Out]
+    }
+
+    fn as_str(&self) -> &'static str {
         match self {
             Opt::Unseen => "unseen",
             Opt::In => "in",

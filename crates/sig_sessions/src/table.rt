@@ -1,16 +1,16 @@
-ghost use Rattle.std.specs.Prelude.{◌≡◌, [], IfOk, drop, take, vec_len, vec_capacity};
+ghost use Rattle.std.specs.Prelude.{◌≡◌, ◌↔◌, [], IfOk, IsTrue, drop, take, vec_len, vec_capacity};
 
 use crate::effects::have_effect;
 use crate::preparing::{row_to_add, updates_of};
 use crate::row::copy_rows;
 use crate::{Change, Row, Verdict, verdict};
 use sig_event::Claims;
-use sig_json::{Items, Memory};
+use sig_json::{Items, Memory, same_slices};
 use sig_subject::Subject;
 use std::alloc::Global;
 use std::marker::Model;
 
-/// The session table: rows in order of first mention.
+/// The session table: rows in order of first mention, no two of them of identical subjects.
 #[derive(Debug, Drop)]
 pub struct Table {
     alloc: Global,
@@ -18,12 +18,15 @@ pub struct Table {
 }
 
 impl Model for Table {
-    ghost use Rattle.std.specs.Prelude.{◌-◌, vec_len, vec_capacity};
+    ghost use Rattle.std.specs.Prelude.{◌≡◌, ◌-◌, true, vec_len, vec_capacity};
     ghost use Rattle.sig_sessions.specs.Changes.{Held};
+    ghost use Rattle.sig_sessions.specs.Table.{are_distinct};
 
     ghost Value = { Held };
 
     ghost view = { λ t. record { rows = t.rows.items; room = vec_capacity t.rows - vec_len t.rows } };
+
+    ghost invariant = { λ t. are_distinct t.rows.items ≡ true };
 }
 
 impl Table {
@@ -42,7 +45,7 @@ impl Table {
     }
 
     /// Makes ready what the claims make of the rows. The rows stay as they are; room for one more may be kept.
-    /// Want of memory is its only error.
+    /// Out of memory is its only error.
     pub fn prepare(&mut self, claims: &Claims) -> Result<Change, Memory>
         ensures same { self.new.rows ≡ self.old.rows }
         ensures ready { IfOk result (λ change. IsReady self.new change) }
@@ -82,7 +85,7 @@ impl Table {
     }
 
     /// Copies of the rows from a place on, counted from 0, at most so many; a place past the end gives no rows.
-    /// Want of memory is its only error.
+    /// Out of memory is its only error.
     pub fn rows(&self, from: u64, most: u64) -> Result<Items<Row>, Memory>
         ensures { IfOk result (λ rows. rows ≡ take most (drop from self.now.rows)) }
     {
@@ -90,7 +93,14 @@ impl Table {
         Ok(Items::of(copy_rows(self.alloc, page)?))
     }
 
-    /// A table with the same rows. Want of memory is its only error.
+    /// Whether both have the same rows in the same order, whatever room each has for more.
+    pub fn has_same_rows(&self, other: &Table) -> bool
+        ensures { IsTrue result ↔ (self.now.rows ≡ other.now.rows) }
+    {
+        same_slices(self.rows.as_slice(), other.rows.as_slice())
+    }
+
+    /// A table with the same rows. Out of memory is its only error.
     pub fn copy(&self) -> Result<Table, Memory>
         ensures { IfOk result (λ t. t.rows ≡ self.now.rows) }
     {

@@ -6,7 +6,7 @@ mod verdicts;
 use crate::{Row, Table};
 use sig_caep::{CaepEvent, CaepKind, Change, Common, Compliance};
 use sig_event::{Claims, Event};
-use sig_json::{Items, Memory, Text};
+use sig_json::{Items, Listed, Memory, Text};
 use sig_risc::RiscEvent;
 use sig_subject::{Member, Plain, Simple, Subject};
 use std::alloc::Global;

@@ -8,4 +8,5 @@ pub mod ReadsClaims
 pub mod ProperClaims
 pub mod JudgedValid
 pub mod ValidRead
+pub mod ValidTokens
 pub mod ShortTokens

@@ -1,14 +1,15 @@
 -- Claims of proper parts are proper: the text of their payload is canonical, and the payload says them.
-use Rattle.std.proofs.Common.{◌≡◌, ℕ, suc, ◌||◌, List, [], ◌∷◌, map, All, Bool, true, false, IsUtf8, Some, refl, sym, ap, ◌∙◌, subst, arith}
+use Rattle.std.proofs.Common.{◌≡◌, ℕ, suc, List, [], ◌∷◌, map, All, true, IsUtf8, Some, refl, sym, ap, ◌∙◌, subst, arith}
 use Rattle.std.specs.Prelude.{bytes_eq}
 use Rattle.std.proofs.lemmas.Bool.{le-leb}
 use Rattle.std.proofs.lemmas.Slice.Eq.{bytes_eq-Decides}
 use Rattle.json.proofs.Printed.Utf8.{are_ascii, IsUtf8-are_ascii}
-use Rattle.serde_json.specs.Data.{Data, Num, unsigned, negative, float, null, boolean, number, string, array, object, Items, no_items, item, Members, no_members, member}
+use Rattle.serde_json.specs.Data.{string, no_members}
 use Rattle.serde_json.specs.View.{items_of}
-use Rattle.serde_json.specs.Written.{compact_text, has_float, items_have_float, members_have_float}
-use Rattle.sig_json.specs.Canon.{IsWhole, IsCanonical, AreCanonical, MembersAreCanonical}
+use Rattle.serde_json.specs.Written.{compact_text}
+use Rattle.sig_json.specs.Canon.{without_fraction, IsCanonical, AreCanonical, MembersAreCanonical}
 use Rattle.sig_json.specs.declared.limits.TheConstants.{LAST_NUMBER}
+use Rattle.sig_json.proofs.Fractions.{canonical_kept}
 use Rattle.sig_json.proofs.ReadBack.{canon_reads}
 use Rattle.sig_json.proofs.Spelled.{spelled_in_order, spelled_depth}
 use Rattle.sig_subject.specs.declared.subject.Subject.{Subject}
@@ -23,43 +24,13 @@ use Rattle.sig_event.proofs.CanonicalEvents as written_events
 use Rattle.sig_event.proofs.WrittenEvents.{written_is}
 use Rattle.sig_set.specs.Claims.{ClaimsAre, EventsAre, audience_of, one_before, texts_of}
 use Rattle.sig_set.specs.Laws.{AreProperByParts, HasParts}
-use Rattle.sig_set.specs.Written.{audience_data, payload_of, put_events, without_fraction}
+use Rattle.sig_set.specs.Written.{audience_data, payload_of, put_events}
 
 pub bytes_same : (bytes : List ℕ) → bytes_eq bytes bytes ≡ true
 bytes_same bytes = (bytes_eq-Decides bytes bytes).1 refl
 
 pub ascii : (text : List ℕ) → are_ascii text ≡ true → IsUtf8 text
 ascii text h = IsUtf8-are_ascii text h
-
--- ---- no fraction stands in a canonical value
-
-neither : (a b : Bool) → a ≡ false → b ≡ false → a || b ≡ false
-neither a b h k = rw (h, k) refl
-
-whole_number : (n : Num) → IsWhole n → has_float (number n) ≡ false
-whole_number (unsigned n) h = refl
-whole_number (negative n) h = refl
-whole_number (float x) h = absurd h
-
-mutual
-  pub whole : (d : Data) → IsCanonical d → has_float d ≡ false
-  whole null h = refl
-  whole (boolean b) h = refl
-  whole (number n) h = whole_number n h
-  whole (string s) h = refl
-  whole (array ds) h = whole_items ds h
-  whole (object ms) h = whole_members ms h
-
-  whole_items : (ds : Items) → AreCanonical ds → items_have_float ds ≡ false
-  whole_items no_items h = refl
-  whole_items (item d ds) h = neither (has_float d) (items_have_float ds) (whole d h.0) (whole_items ds h.1)
-
-  whole_members : (ms : Members) → MembersAreCanonical ms → members_have_float ms ≡ false
-  whole_members no_members h = refl
-  whole_members (member k d ms) h = neither (has_float d) (members_have_float ms) (whole d h.1) (whole_members ms h.3)
-
-kept : (d : Data) → IsCanonical d → without_fraction d ≡ d
-kept d h = rw (whole d h) refl
 
 -- ---- the audience
 
@@ -89,12 +60,12 @@ audience_back (text ∷ other ∷ texts) = texts_back (text ∷ other ∷ texts)
 subject_canonical : (claims : Claims) (e : Event) → HasParts claims e → IsCanonical (without_fraction (subject_data claims.subject))
 subject_canonical claims e h =
     let it = subjects.writes_canonical claims.subject h.subject in
-    subst IsCanonical (sym (kept (subject_data claims.subject) it)) it
+    subst IsCanonical (sym (canonical_kept (subject_data claims.subject) it)) it
 
 event_canonical : (claims : Claims) (e : Event) → HasParts claims e → IsCanonical (without_fraction (events.payload_of e))
 event_canonical claims e h =
     let it = written_events.writes_canonical e claims.subject h.event in
-    subst IsCanonical (sym (kept (events.payload_of e) it)) it
+    subst IsCanonical (sym (canonical_kept (events.payload_of e) it)) it
 
 events_canonical : (claims : Claims) (e : Event) → HasParts claims e → MembersAreCanonical (put_events claims.events no_members)
 events_canonical claims e h =
@@ -128,13 +99,13 @@ canonical claims e h = (
 subject_is : (s : Subject) → IsProperSubject s → SubjectIs s (without_fraction (subject_data s))
 subject_is s h =
     let back : subject_data s ≡ h.0 = writes_back (subject_text s) s h.0 h.1 h.2 in
-    subst (SubjectIs s) (sym (kept (subject_data s) (subjects.writes_canonical s h) ∙ back)) h.2
+    subst (SubjectIs s) (sym (canonical_kept (subject_data s) (subjects.writes_canonical s h) ∙ back)) h.2
 
 event_is : (e : Event) (s : Subject) → events.IsProperEvent e s → events.IsEvent e (events.uri_of e) (without_fraction (events.payload_of e)) s
 event_is e s h =
     let text = compact_text (events.payload_of e) in
     let it = written_is e (events.uri_of e) h.0 s (spelled_in_order text h.0 h.1) (spelled_depth text h.0 h.1) h.2 in
-    subst (λ d. events.IsEvent e (events.uri_of e) d s) (sym (kept (events.payload_of e) (written_events.writes_canonical e s h))) it
+    subst (λ d. events.IsEvent e (events.uri_of e) d s) (sym (canonical_kept (events.payload_of e) (written_events.writes_canonical e s h))) it
 
 says : (claims : Claims) (e : Event) → HasParts claims e → ClaimsAre claims (payload_of claims)
 says claims e h = record {

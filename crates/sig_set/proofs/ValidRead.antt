@@ -21,7 +21,7 @@ use Rattle.sig_set.proofs.ReadsClaims.{all_hold, content_holds, content_passes}
 false_is_true : {P : Type 0} → false ≡ true → P
 false_is_true h = cc
 
-valid_parts : (o : Option Fault) (read claims : Claims) → judged_by o read ≡ Valid claims → (o ≡ None) × (read ≡ claims)
+pub valid_parts : (o : Option Fault) (read claims : Claims) → judged_by o read ≡ Valid claims → (o ≡ None) × (read ≡ claims)
 valid_parts None read claims h = (refl, cc h)
 valid_parts (Some fault) read claims h = cc h
 
@@ -34,7 +34,7 @@ there test None h = false_is_true h
 there test (Some a) h = refl
 
 -- with no name wanted the last checks hold too
-nameless : (named : Option (List ℕ)) (v : Option Data) → Passes (content_checks named v) → Passes (content_checks None v)
+pub nameless : (named : Option (List ℕ)) (v : Option Data) → Passes (content_checks named v) → Passes (content_checks None v)
 nameless named v h =
     let all = content_holds named v h in
     content_passes None v (record {

@@ -1,15 +1,17 @@
 -- No fraction stands in the payload of claims.
-use Rattle.std.proofs.Common.{◌≡◌, ◌||◌, ℕ, List, [], ◌∷◌, map, Bool, true, false, if◌then◌else◌, Ordering, Less, Equal, Greater, nat_cmp, refl}
+use Rattle.std.proofs.Common.{◌≡◌, ◌||◌, ℕ, List, [], ◌∷◌, map, Bool, true, false, Ordering, Less, Equal, Greater, nat_cmp, refl}
 use Rattle.std.specs.Cmp.Lexicographic.{slice_cmp}
 use Rattle.std.specs.Ordering.{match_ordering}
-use Rattle.serde_json.specs.Data.{Data, null, string, Members, no_members, member, put}
+use Rattle.serde_json.specs.Data.{Data, string, Members, no_members, member, put}
 use Rattle.serde_json.specs.View.{items_of}
 use Rattle.serde_json.specs.Written.{has_float, items_have_float, members_have_float}
 use Rattle.sig_subject.specs.Written.{subject_data}
 use Rattle.sig_event.specs.declared.claims.Claims.{Claims}
 use Rattle.sig_event.specs.declared.event.Event.{Event}
 use Rattle.sig_event.specs.Events as events
-use Rattle.sig_set.specs.Written.{audience_data, payload_of, put_events, without_fraction}
+use Rattle.sig_json.specs.Canon.{without_fraction}
+use Rattle.sig_json.proofs.Fractions.{without_whole}
+use Rattle.sig_set.specs.Written.{audience_data, payload_of, put_events}
 
 neither : (a b : Bool) → a ≡ false → b ≡ false → a || b ≡ false
 neither a b h k = rw (h, k) refl
@@ -17,13 +19,6 @@ neither a b h k = rw (h, k) refl
 both : (a b : Bool) → a || b ≡ false → (a ≡ false) × (b ≡ false)
 both false b h = (refl, h)
 both true b h = cc
-
-without_whole : (d : Data) → has_float (without_fraction d) ≡ false
-without_whole d = at (has_float d) refl
-  where
-    at : (b : Bool) → has_float d ≡ b → has_float (if b then null else d) ≡ false
-    at true is = refl
-    at false is = is
 
 put_whole : (k : List ℕ) (d : Data) (ms : Members) → has_float d ≡ false → members_have_float ms ≡ false → members_have_float (put k d ms) ≡ false
 put_whole k d no_members one rest = neither (has_float d) false one refl

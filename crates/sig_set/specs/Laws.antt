@@ -1,9 +1,12 @@
 -- What holds of tokens that are written, and of tokens that are read.
-use Rattle.std.specs.Prelude.{◌≡◌, ◌<◌, ◌≤◌, ℕ, List, [], ◌∷◌, true, nat_eq, All, Contains, Option, Some, IfSome, IsUtf8, codes, length, Ok}
+use Rattle.std.specs.Prelude.{◌≡◌, ◌<◌, ◌≤◌, ℕ, List, [], ◌∷◌, true, nat_eq, All, Contains, Option, Some, None, IfSome, IsUtf8, codes, length, Ok}
 use Rattle.std.specs.List.{list_all, list_any}
-use Rattle.serde_json.specs.Data.{depth}
+use Rattle.base64.specs.GeneralPurpose.{IsBytes}
+use Rattle.serde_json.specs.Data.{Data, depth}
 use Rattle.serde_json.specs.Read.{max_depth}
-use Rattle.sig_json.specs.declared.limits.TheConstants.{KEY_NAME_BYTES, LAST_NUMBER, PAYLOAD_BYTES}
+use Rattle.sig_json.specs.declared.limits.TheConstants.{KEY_NAME_BYTES, LAST_NUMBER, PAYLOAD_BYTES, TOKEN_BYTES}
+use Rattle.sig_json.specs.Json.{json_of, member_of, text_member}
+use Rattle.sig_jws.specs.Compact.{signed}
 use Rattle.sig_jws.specs.declared.key.Key.{Key}
 use Rattle.sig_subject.specs.Written.{IsProperSubject}
 use Rattle.sig_event.specs.Events.{IsProperEvent, uri_of}
@@ -11,6 +14,8 @@ use Rattle.sig_event.specs.declared.claims.Claims.{Claims}
 use Rattle.sig_event.specs.declared.event.Event.{Event}
 use Rattle.sig_set.specs.declared.trust.Issuer.{Issuer}
 use Rattle.sig_set.specs.declared.trust.Trust.{Trust}
+use Rattle.sig_set.specs.Claims.{ClaimsAre}
+use Rattle.sig_set.specs.Header.{is_candidate, says_token}
 use Rattle.sig_set.specs.Judgement.{Valid, issuer_named, judged}
 use Rattle.sig_set.specs.Reading.{claims_read}
 use Rattle.sig_set.specs.Written.{IsProperClaims, payload_of, payload_text_of, token_text, written_of}
@@ -43,6 +48,37 @@ pub record IsTrusted (trust : Trust) (claims : Claims) (key : Key) : Type 0 wher
 -- no name, or this one
 abbrev pub IsNameOr : Option (List ℕ) → List ℕ → Type 0
 IsNameOr named jti = (name : List ℕ) → named ≡ Some name → name ≡ jti
+
+-- a token is valid with these claims: its text is the signing of a header and a payload under a key that may have signed
+-- it, of the first issuer named as the claims' issuer, who is the principal; the claims are for the receiver; they are
+-- what the payload says; and the token goes under their identifier or no name (RFC 8417, section 2; RFC 7515, section 5.2)
+pub record IsValid (trust : Trust) (principal named : Option (List ℕ)) (text : List ℕ) (claims : Claims) : Type 0 where
+  pub short : length text ≤ TOKEN_BYTES
+  pub header : List ℕ
+  pub payload : List ℕ
+  pub key : Key
+  pub signing : text ≡ signed header payload key.bytes
+  pub head : Data
+  pub header_spells : json_of header ≡ Some head
+  pub typed : says_token (Some head) ≡ true
+  pub algorithm : text_member (codes "alg") head ≡ Some (codes "HS256")
+  pub extended : member_of (codes "crit") head ≡ None
+  pub issuer : Issuer
+  pub known : issuer_named claims.iss trust.issuers ≡ Some issuer
+  pub keys : Contains issuer.keys key
+  pub candidate : is_candidate (member_of (codes "kid") head) key ≡ true
+  pub speaks : principal ≡ Some claims.iss
+  pub audience : Contains claims.aud trust.audience
+  pub body : Data
+  pub payload_spells : json_of payload ≡ Some body
+  pub says : ClaimsAre claims body
+  pub name : IsNameOr named claims.jti
+
+-- what is judged valid with claims is valid with them in that sense
+abbrev pub IsValidWhereJudged : Type 0
+IsValidWhereJudged =
+    (trust : Trust) (principal named : Option (List ℕ)) (text : List ℕ) (claims : Claims)
+    → IsBytes text → judged trust principal named text ≡ Valid claims → IsValid trust principal named text claims
 
 -- what is written of proper claims is valid with these claims, for the issuer and under their identifier or no name
 abbrev pub AreJudgedValid : Type 0

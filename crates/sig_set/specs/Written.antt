@@ -1,8 +1,9 @@
 -- How claims are written as a token, and which claims are proper (RFC 8417, section 2; RFC 7515, section 7.1).
 use Rattle.std.specs.Prelude.{◌≡◌, ℕ, List, [], ◌∷◌, Option, Some, None, codes, length, map, nat_le, if◌then◌else◌, Result, Ok, Err}
-use Rattle.serde_json.specs.Data.{Data, null, array, string, number, unsigned, object, Members, no_members, member, put}
+use Rattle.serde_json.specs.Data.{Data, array, string, number, unsigned, object, Members, no_members, member, put}
 use Rattle.serde_json.specs.View.{items_of}
-use Rattle.serde_json.specs.Written.{compact_text, has_float}
+use Rattle.serde_json.specs.Written.{compact_text}
+use Rattle.sig_json.specs.Canon.{without_fraction}
 use Rattle.sig_json.specs.Json.{json_of}
 use Rattle.sig_json.specs.declared.limits.TheConstants.{TOKEN_BYTES}
 use Rattle.sig_jws.specs.Compact.{signed}
@@ -14,10 +15,6 @@ use Rattle.sig_event.specs.Events as events
 use Rattle.sig_set.specs.declared.writing.WriteFault.{WriteFault}
 use Rattle.sig_set.specs.declared.writing.WriteFault.TheVariants.{TooLong}
 use Rattle.sig_set.specs.Claims.{ClaimsAre}
-
--- a value in which no fraction stands; one with a fraction, which nothing proper has, is written as null
-abbrev pub without_fraction : Data → Data
-without_fraction d = if has_float d then null else d
 
 -- the audience: a text where there is one, else a list (RFC 7519, section 4.1.3)
 abbrev pub audience_data : List (List ℕ) → Data

@@ -37,7 +37,7 @@ use std::alloc::Global;
 ///    from 0 to 2^62 (`Iat`); there is neither `exp` (`Exp`) nor `sub` (`Sub`); `sub_id` is a subject (`SubId`); `events`
 ///    has a member (`Events`), and each, in byte order of its URI, is an event about the subject (`Event`).
 ///
-/// A `crit`, `exp` or `sub` of null is there too. Other members are passed over. `Memory` is want of memory.
+/// A `crit`, `exp` or `sub` of null is there too. Other members are passed over. `Memory` is out of memory.
 pub fn judge(
     alloc: Global,
     trust: &Trust,

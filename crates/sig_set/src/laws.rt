@@ -1,7 +1,7 @@
 //! Laws over the definitions: each function's contract is the law, and nothing calls it.
 
 ghost use Rattle.sig_set.specs.Claims.{ReadsClaims};
-ghost use Rattle.sig_set.specs.Laws.{AreJudgedValid, AreProperByParts, AreRead, AreShortEnough};
+ghost use Rattle.sig_set.specs.Laws.{AreJudgedValid, AreProperByParts, AreRead, AreShortEnough, IsValidWhereJudged};
 
 /// A payload says claims exactly where they are read of it.
 pub fn claims_are_read()
@@ -19,6 +19,14 @@ pub fn claims_of_proper_parts_are_proper()
 /// with the name of the claims' issuer has that key, and the token goes under the claims' identifier or no name.
 pub fn written_claims_are_judged_valid()
     ensures { AreJudgedValid }
+{}
+
+/// What a valid token is: where a text is judged valid with claims, it is the signing of a header and a payload by a key
+/// that the header allows, one of the first issuer named as the claims' issuer, and that issuer is the principal; the
+/// claims' audience has the trust's own name; the payload says the claims; and the name is absent or the claims'
+/// identifier.
+pub fn judged_tokens_are_valid()
+    ensures { IsValidWhereJudged }
 {}
 
 /// The claims of a token that is judged valid are read of its text without a key.

@@ -6,7 +6,8 @@
 //! It stands on `sig_jws` for the compact form and the MAC, on `sig_subject` and `sig_event` for what a token says, and on
 //! `sig_json` for values. The judgement is a list of checks over the whole text of which the first that fails decides
 //! (`specs/Judgement`); what a payload says is a relation, and its reading is that relation (`specs/Claims`); what is
-//! written of claims is that of `specs/Written`. What is written of proper claims is judged valid with these claims, and
+//! written of claims is that of `specs/Written`. What a valid token is stands in one record above the checks (`IsValid` of
+//! `specs/Laws`), and what is judged valid is that. What is written of proper claims is judged valid with these claims, and
 //! the claims of a token that is valid are read without its key (`laws`). Left out: forging, and the secrecy of keys.
 #![tactic(auto)]
 
@@ -20,6 +21,7 @@ mod reading;
 mod refusal;
 #[cfg(test)]
 mod tests;
+mod threads;
 mod trust;
 mod values;
 mod writing;

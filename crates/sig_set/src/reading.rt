@@ -17,7 +17,7 @@ use std::alloc::Global;
 pub enum ClaimsFault {
     /// The first check that fails is at this spot.
     Bad(Spot),
-    /// Want of memory.
+    /// Out of memory.
     Memory,
 }
 

@@ -1,8 +1,7 @@
 ghost use Rattle.std.specs.Prelude.{◌≡◌};
 ghost use Rattle.sig_set.specs.Spelled.{code_text, spot_text};
 
-use sig_json::Memory;
-use std::alloc::{AllocError, AllocFailed};
+use sig_json::MemoryRefusal;
 
 /// Why a token is refused (RFC 8935, section 2.4).
 #[derive(Clone, Copy, Debug, PartialEq, Eq, Hash)]
@@ -15,7 +14,7 @@ pub enum Code {
     InvalidIssuer,
     /// It is for another audience.
     InvalidAudience,
-    /// Nobody known brings it.
+    /// It comes with no bearer that is known.
     AuthenticationFailed,
     /// Who brings it may not speak for its issuer.
     AccessDenied,
@@ -74,7 +73,7 @@ pub enum Refusal {
         /// Where.
         spot: Spot,
     },
-    /// Want of memory.
+    /// Out of memory.
     Memory,
 }
 
@@ -130,32 +129,12 @@ pub(crate) fn refused(code: Code, spot: Spot) -> Refusal
     Refusal::Coded { code, spot }
 }
 
-impl From<AllocError> for Refusal {
+impl<R: MemoryRefusal> From<R> for Refusal {
     ghost use Rattle.sig_set.specs.declared.refusal.Refusal.TheVariants.{Memory};
 
     ghost from_gives = { λ _ e. e ≡ Memory };
 
-    fn from(_error: AllocError) -> Refusal {
-        Refusal::Memory
-    }
-}
-
-impl<T: Drop> From<AllocFailed<T>> for Refusal {
-    ghost use Rattle.sig_set.specs.declared.refusal.Refusal.TheVariants.{Memory};
-
-    ghost from_gives = { λ _ e. e ≡ Memory };
-
-    fn from(_error: AllocFailed<T>) -> Refusal {
-        Refusal::Memory
-    }
-}
-
-impl From<Memory> for Refusal {
-    ghost use Rattle.sig_set.specs.declared.refusal.Refusal.TheVariants.{Memory};
-
-    ghost from_gives = { λ _ e. e ≡ Memory };
-
-    fn from(_error: Memory) -> Refusal {
+    fn from(_refusal: R) -> Refusal {
         Refusal::Memory
     }
 }

@@ -5,51 +5,34 @@ ghost use Rattle.serde_json.specs.Data.{array, no_members, object, string};
 ghost use Rattle.serde_json.specs.View.{items_of, view};
 ghost use Rattle.serde_json.specs.Written.{compact_text, has_float};
 ghost use Rattle.sig_json.specs.Answers.{Answers};
-ghost use Rattle.sig_set.specs.Written.{audience_data, header_of, header_text_of, payload_of, payload_text_of, put_events, token_text, without_fraction, written_of};
+ghost use Rattle.sig_set.specs.Written.{audience_data, header_of, header_text_of, payload_of, payload_text_of, put_events, token_text, written_of};
 
 use crate::Claims;
 use serde_json::{Map, json};
 use sig_event::Event;
 use sig_json::limits::TOKEN_BYTES;
-use sig_json::{Bytes, Memory, Text, Value, has_fraction, put_value};
+use sig_json::{Bytes, Memory, MemoryRefusal, Text, Value, put_value, without_fraction};
 use sig_jws::{Key, sign};
-use std::alloc::{AllocError, AllocFailed, Global};
+use std::alloc::Global;
+use thiserror::Error;
 
 /// Why no token was written.
-#[derive(Clone, Copy, Debug, PartialEq, Eq, Hash)]
+#[derive(Clone, Copy, Debug, PartialEq, Eq, Hash, Error)]
 pub enum WriteFault {
     /// The token would have this many bytes, which is more than 8,192.
+    #[error("the token would have {0} bytes")]
     TooLong(u64),
-    /// Want of memory.
+    /// Out of memory.
+    #[error("out of memory")]
     Memory,
 }
 
-impl From<AllocError> for WriteFault {
+impl<R: MemoryRefusal> From<R> for WriteFault {
     ghost use Rattle.sig_set.specs.declared.writing.WriteFault.TheVariants.{Memory};
 
     ghost from_gives = { λ _ e. e ≡ Memory };
 
-    fn from(_error: AllocError) -> WriteFault {
-        WriteFault::Memory
-    }
-}
-
-impl<T: Drop> From<AllocFailed<T>> for WriteFault {
-    ghost use Rattle.sig_set.specs.declared.writing.WriteFault.TheVariants.{Memory};
-
-    ghost from_gives = { λ _ e. e ≡ Memory };
-
-    fn from(_error: AllocFailed<T>) -> WriteFault {
-        WriteFault::Memory
-    }
-}
-
-impl From<Memory> for WriteFault {
-    ghost use Rattle.sig_set.specs.declared.writing.WriteFault.TheVariants.{Memory};
-
-    ghost from_gives = { λ _ e. e ≡ Memory };
-
-    fn from(_error: Memory) -> WriteFault {
+    fn from(_refusal: R) -> WriteFault {
         WriteFault::Memory
     }
 }
@@ -171,16 +154,6 @@ fn events_value(alloc: Global, events: &[Event]) -> Result<Value, Memory>
         put_value(alloc, &mut members, event.uri(), without_fraction(payload))?;
     }
     Ok(Value::Object(members))
-}
-
-// The value, or null in place of one with a fraction.
-fn without_fraction(value: Value) -> Value
-    ensures { view result ≡ without_fraction (view value) }
-{
-    if has_fraction(&value) {
-        return Value::Null;
-    }
-    value
 }
 
 // The text of a value in which no fraction stands.

@@ -7,7 +7,7 @@ use super::{
 use crate::{Table, Verdict};
 use sig_caep::Compliance;
 use sig_event::Event;
-use sig_json::Memory;
+use sig_json::{Listed, Memory};
 use sig_risc::RiscEvent;
 use sig_subject::identical;
 use std::alloc::Global;
