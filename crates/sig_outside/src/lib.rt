@@ -25,6 +25,7 @@ mod memory_disk;
 mod memory_sink;
 mod memory_source;
 mod mode;
+mod place;
 mod planned;
 mod reach;
 mod sink;
@@ -38,6 +39,7 @@ pub use memory_disk::MemDisk;
 pub use memory_sink::MemSink;
 pub use memory_source::MemSource;
 pub use mode::Mode;
+pub use place::Place;
 pub use sink::{PutFault, Sink, put_all};
 pub use source::Source;
 
