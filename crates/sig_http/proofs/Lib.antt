@@ -1,0 +1,10 @@
+pub mod AppendLemmas
+pub mod BodyLemmas
+pub mod ChunkLemmas
+pub mod HeadLemmas
+pub mod OutcomeLemmas
+pub mod PieceLemmas
+pub mod ReadingLemmas
+pub mod SectionLemmas
+pub mod TextLemmas
+pub mod TokenLemmas

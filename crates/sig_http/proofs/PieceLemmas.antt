@@ -1,0 +1,82 @@
+-- What is taken of a source, call after call.
+use Rattle.std.proofs.Common.{◌≡◌, ℕ, List, [], ◌++◌, Option, sym, ◌∙◌, ap, subst, append_assoc, append-nil}
+use Rattle.std.proofs.KnownBytes.{Consumes-nil, Consumes-trans}
+use Rattle.sig_outside.specs.Causes.{Raised}
+use Rattle.sig_http.specs.Faults.{OnFault, OnJudged, Tallies}
+use Rattle.sig_http.specs.Pieces.{Draws, Halts}
+use Rattle.sig_http.specs.declared.fault.HttpFault.{HttpFault}
+use Rattle.sig_http.specs.declared.fault.HttpFault.TheVariants.{Head, HeadLong, Length, BodyLong, Coding, Expect, Cut, Link, Memory}
+
+abbrev pub draws_none : (a : List ℕ) (l : Option (List ℕ)) → Draws a a l l
+draws_none a l = record { more = []; gave = Consumes-nil l; stands = sym (append-nil a) }
+
+abbrev pub draws_then : (a b c : List ℕ) (l m n : Option (List ℕ)) → Draws a b l m → Draws b c m n → Draws a c l n
+draws_then a b c l m n p q = record {
+  more = p.more ++ q.more;
+  gave = Consumes-trans l m n p.more q.more p.gave q.gave;
+  stands = q.stands ∙ ap (λ x. x ++ q.more) p.stands ∙ append_assoc a p.more q.more;
+}
+
+-- where no piece was taken, no bytes were judged
+pub halts_fault : (fault : HttpFault) (before now : ℕ) (cut decided : Type 0) → Halts fault before now → OnFault fault cut decided
+halts_fault Head before now cut decided h = absurd h
+halts_fault HeadLong before now cut decided h = absurd h
+halts_fault Length before now cut decided h = absurd h
+halts_fault BodyLong before now cut decided h = absurd h
+halts_fault Coding before now cut decided h = absurd h
+halts_fault Expect before now cut decided h = absurd h
+halts_fault Cut before now cut decided h = absurd h
+halts_fault Link before now cut decided h = tt
+halts_fault Memory before now cut decided h = tt
+
+-- the count after it
+pub halts_tally : (fault : HttpFault) (first before now : ℕ) → before ≡ first → Halts fault before now → Tallies fault first now
+halts_tally Head first before now e h = absurd h
+halts_tally HeadLong first before now e h = absurd h
+halts_tally Length first before now e h = absurd h
+halts_tally BodyLong first before now e h = absurd h
+halts_tally Coding first before now e h = absurd h
+halts_tally Expect first before now e h = absurd h
+halts_tally Cut first before now e h = absurd h
+halts_tally Link first before now e h = subst (λ (b : ℕ). Raised b now) e h
+halts_tally Memory first before now e h = h ∙ e
+
+-- what is said of a refusal follows where its two parts do
+pub on_fault : (fault : HttpFault) (cut decided cut' decided' : Type 0) → (cut → cut') → (decided → decided') → OnFault fault cut decided → OnFault fault cut' decided'
+on_fault Head cut decided cut' decided' p q h = q h
+on_fault HeadLong cut decided cut' decided' p q h = q h
+on_fault Length cut decided cut' decided' p q h = q h
+on_fault BodyLong cut decided cut' decided' p q h = q h
+on_fault Coding cut decided cut' decided' p q h = q h
+on_fault Expect cut decided cut' decided' p q h = q h
+on_fault Cut cut decided cut' decided' p q h = p h
+on_fault Link cut decided cut' decided' p q h = tt
+on_fault Memory cut decided cut' decided' p q h = tt
+
+-- what bytes that are held whole decide
+pub judged_fault : (fault : HttpFault) (decided cut decided' : Type 0) → (decided → decided') → OnJudged fault decided → OnFault fault cut decided'
+judged_fault Head decided cut decided' q h = q h
+judged_fault HeadLong decided cut decided' q h = q h
+judged_fault Length decided cut decided' q h = q h
+judged_fault BodyLong decided cut decided' q h = q h
+judged_fault Coding decided cut decided' q h = q h
+judged_fault Expect decided cut decided' q h = q h
+judged_fault Cut decided cut decided' q h = absurd h
+judged_fault Link decided cut decided' q h = absurd h
+judged_fault Memory decided cut decided' q h = tt
+
+-- and leave the count
+pub judged_tally : (fault : HttpFault) (decided : Type 0) (before now : ℕ) → now ≡ before → OnJudged fault decided → Tallies fault before now
+judged_tally Head decided before now e h = e
+judged_tally HeadLong decided before now e h = e
+judged_tally Length decided before now e h = e
+judged_tally BodyLong decided before now e h = e
+judged_tally Coding decided before now e h = e
+judged_tally Expect decided before now e h = e
+judged_tally Cut decided before now e h = absurd h
+judged_tally Link decided before now e h = absurd h
+judged_tally Memory decided before now e h = e
+
+-- the same of bytes by another name
+pub draws_from : (a b c : List ℕ) (l m : Option (List ℕ)) → a ≡ b → Draws a c l m → Draws b c l m
+draws_from a b c l m e p = record { more = p.more; gave = p.gave; stands = p.stands ∙ ap (λ x. x ++ p.more) e }

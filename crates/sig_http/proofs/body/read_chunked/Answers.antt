@@ -1,0 +1,38 @@
+use Rattle.std.proofs.Common.{◌≡◌, ◌∙◌, ap, sym, arith, length}
+use Rattle.sig_http.specs.Chunks.{chunks_from}
+use Rattle.sig_http.proofs.PieceLemmas.{judged_fault, judged_tally, draws_from}
+use Rattle.sig_http.proofs.BodyLemmas.{chunks_break, chunks_cut, chunking_on}
+use Rattle.sig_http.proofs.body.read_chunked.Goals as goal
+
+pub returns-in-Broken-clause-refused : goal.returns-in-Broken-clause-refused
+returns-in-Broken-clause-refused g c =
+    let told = rw c.in-Broken.is at c.in_ok-next.ensures.told in
+    let light = rw c.in-Broken.is at c.in_ok-next.ensures.light in
+    judged_fault c.in-Broken.fault _ _ _ (λ _. chunks_break c.args.limit c.args.held.items c.pieces.phase c.pieces.content.items c.pieces.held.items c.in-Broken.fault _ _ c.pieces.invariant.chunking
+    (ap (chunks_from c.args.limit c.pieces.phase c.pieces.content.items) (sym c.as_slice.ensures.value) ∙ told)) light
+
+pub returns-in-Broken-clause-tally : goal.returns-in-Broken-clause-tally
+returns-in-Broken-clause-tally g c =
+    let light = rw c.in-Broken.is at c.in_ok-next.ensures.light in
+    judged_tally c.in-Broken.fault _ _ _ c.pieces.invariant.steady light
+
+pub returns-then-branch-eq0-clause-refused : goal.returns-then-branch-eq0-clause-refused
+returns-then-branch-eq0-clause-refused g c =
+    let told = rw c.in-Open.is at c.in_ok-next.ensures.told in
+    let piece = c.in_ok-take_piece.ensures.piece in
+    let none : length c.take_piece.new.bytes.items ≡ 0 = omega (arith, piece.count, ap length c.clear.ensures.items, c.if-branch-eq0.true) in
+    chunks_cut c.args.limit c.args.held.items c.pieces.phase c.in-Open.next c.pieces.content.items c.read_chunks.new.content.items c.pieces.held.items c.take_piece.new.bytes.items _ _ _
+    c.pieces.invariant.chunking (ap (chunks_from c.args.limit c.pieces.phase c.pieces.content.items) (sym c.as_slice.ensures.value) ∙ told)
+    (draws_from _ _ _ _ _ c.clear.ensures.items c.in_ok-take_piece.ensures.draws) none (piece.ends c.if-branch-eq0.true)
+
+pub pieces-preserved : goal.pieces-preserved
+pieces-preserved g c =
+    let told = rw c.in-Open.is at c.in_ok-next.ensures.told in
+    let before = c.pieces.invariant in
+    record {
+      chunking = chunking_on c.args.limit c.args.held.items c.pieces.phase c.in-Open.next c.pieces.content.items c.read_chunks.new.content.items c.pieces.held.items c.take_piece.new.bytes.items _ _ _
+          before.chunking (ap (chunks_from c.args.limit c.pieces.phase c.pieces.content.items) (sym c.as_slice.ensures.value) ∙ told)
+          (draws_from _ _ _ _ _ c.clear.ensures.items c.in_ok-take_piece.ensures.draws);
+      beside = c.in_ok-take_piece.ensures.beside ∙ before.beside;
+      steady = c.in_ok-take_piece.ensures.steady ∙ before.steady;
+    }

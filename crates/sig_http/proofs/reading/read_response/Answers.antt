@@ -1,0 +1,36 @@
+use Rattle.std.proofs.Common.{◌≡◌, ◌∙◌, ap, subst, Err, List, ℕ, rules}
+use Rattle.sig_json.specs.declared.limits.TheConstants.{RESPONSE_BODY_BYTES}
+use Rattle.sig_http.specs.Message.{FindsResponse, responses}
+use Rattle.sig_http.specs.Heads.{Opens, RefusesHead}
+use Rattle.sig_http.specs.Bodies.{EndsBody, StopsBody}
+use Rattle.sig_http.proofs.PieceLemmas.{draws_from}
+use Rattle.sig_http.proofs.ReadingLemmas.{section_refused, head_refused, body_refused, got_response, refused_responses}
+use Rattle.sig_http.proofs.reading.read_response.Goals as goal
+
+pub returns-in_err-count-clause-refused : goal.returns-in_err-count-clause-refused
+returns-in_err-count-clause-refused g c =
+    let is : c.from_residual.result ≡ Err c.in_err-count.field-0.0 = search rules in
+    rw is (refused_responses c.in_err-count.field-0.0 c.args.kept.now _ (section_refused FindsResponse responses c.args.kept.now c.take_section.new.held.items c.in_err-count.field-0.0 _ _ (draws_from _ _ _ _ _ c.take-held.ensures.taken c.in_err-count.ensures.draws) c.in_err-count.ensures.refused))
+
+pub returns-in_err-response-clause-refused : goal.returns-in_err-response-clause-refused
+returns-in_err-response-clause-refused g c =
+    let is : c.from_residual-in_err-response.result ≡ Err c.in_err-response.field-0.0 = search rules in
+    let taken = rw c.in-Some.is at c.in_ok-count.ensures.taken in
+    let refused = subst (λ (section : List ℕ). RefusesHead FindsResponse responses section c.in_err-response.field-0.0) (c.as_slice.ensures.value ∙ c.in_ok-after.ensures.items) c.in_err-response.ensures.refused in
+    rw is (refused_responses c.in_err-response.field-0.0 c.args.kept.now _ (head_refused FindsResponse responses c.args.kept.now c.take_section.new.held.items c.in-Some.count c.in_err-response.field-0.0 _ _ (draws_from _ _ _ _ _ c.take-held.ensures.taken c.in_ok-count.ensures.draws) taken.0 taken.1 refused))
+
+pub returns-in_err-body-clause-refused : goal.returns-in_err-body-clause-refused
+returns-in_err-body-clause-refused g c =
+    let is : c.from_residual-in_err-body.result ≡ Err c.in_err-body.field-0.0 = search rules in
+    let taken = rw c.in-Some.is at c.in_ok-count.ensures.taken in
+    let opens = subst (λ (section : List ℕ). Opens FindsResponse responses section c.in_ok-response.response c.in_ok-response.framing) (c.as_slice.ensures.value ∙ c.in_ok-after.ensures.items) c.in_ok-response.ensures.opens in
+    let stops = subst (λ (held : List ℕ). StopsBody RESPONSE_BODY_BYTES c.in_ok-response.framing held c.in_err-body.field-0.0 (g.S.Source.left c.take_section.new.source) (g.S.Source.left c.read_body.new.source)) c.in_ok-after.ensures.tail c.in_err-body.ensures.refused in
+    rw is (refused_responses c.in_err-body.field-0.0 c.args.kept.now _ (body_refused FindsResponse responses c.args.kept.now c.take_section.new.held.items c.in-Some.count c.in_ok-response.response c.in_ok-response.framing c.in_err-body.field-0.0 _ _ _ (draws_from _ _ _ _ _ c.take-held.ensures.taken c.in_ok-count.ensures.draws) taken.0 taken.1 opens stops))
+
+pub returns-clause-found : goal.returns-clause-found
+returns-clause-found g c =
+    let taken = rw c.in-Some.is at c.in_ok-count.ensures.taken in
+    let opens = subst (λ (section : List ℕ). Opens FindsResponse responses section c.in_ok-response.response c.in_ok-response.framing) (c.as_slice.ensures.value ∙ c.in_ok-after.ensures.items) c.in_ok-response.ensures.opens in
+    let ends = subst (λ (held : List ℕ). EndsBody RESPONSE_BODY_BYTES c.in_ok-response.framing held c.in_ok-body.body (g.S.Source.left c.take_section.new.source) (g.S.Source.left c.read_body.new.source)) c.in_ok-after.ensures.tail c.in_ok-body.ensures.body in
+    got_response c.args.kept.now c.take_section.new.held.items c.in-Some.count c.in_ok-response.response c.in_ok-response.framing c.in_ok-body.body _ _ _ _ _ (draws_from _ _ _ _ _ c.take-held.ensures.taken c.in_ok-count.ensures.draws) taken.0 taken.1 opens ends
+    (ap (λ b. record c.in_ok-response.response { body = b }) c.from_vec.ensures) c.put.ensures.kept

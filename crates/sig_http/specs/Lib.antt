@@ -1,0 +1,13 @@
+pub mod Answering
+pub mod Bodies
+pub mod Chunks
+pub mod Faults
+pub mod Fields
+pub mod Framing
+pub mod Heads
+pub mod Message
+pub mod Pieces
+pub mod Query
+pub mod Section
+pub mod Spelling
+pub mod Values
