@@ -1,3 +1,4 @@
 pub mod CanonicalCaep
 pub mod ReadsCaep
 pub mod WrittenCaep
+pub mod ShallowCaep

@@ -19,7 +19,7 @@ use Rattle.sig_caep.specs.declared.compliance.Compliance.{Compliance}
 use Rattle.sig_caep.specs.declared.compliance.Compliance.TheVariants.{Compliant, NotCompliant}
 use Rattle.sig_caep.specs.declared.initiator.Initiator.{Initiator}
 use Rattle.sig_caep.specs.declared.initiator.Initiator.TheVariants.{Admin, User, Policy, System}
-use Rattle.sig_caep.specs.declared.common.Common.{Common}
+use Rattle.sig_caep.specs.declared.common_members.Common.{Common}
 use Rattle.sig_caep.specs.declared.kind.CaepKind.{CaepKind}
 use Rattle.sig_caep.specs.declared.kind.CaepKind.TheVariants.{SessionRevoked, TokenClaimsChange, CredentialChange, AssuranceLevelChange, DeviceComplianceChange, SessionEstablished, SessionPresented}
 use Rattle.sig_caep.specs.declared.event.CaepEvent.{CaepEvent}

@@ -10,7 +10,7 @@ use Rattle.sig_json.specs.Payloads.{put_all}
 use Rattle.sig_json.specs.declared.members.PayloadFault.{PayloadFault}
 use Rattle.sig_caep.specs.Lists.{change_text, change_in, direction_text, direction_in, compliance_text, compliance_in, initiator_text, initiator_in}
 use Rattle.sig_caep.specs.Table.{caep_table, type_named, common_rules}
-use Rattle.sig_caep.specs.declared.common.Common.{Common}
+use Rattle.sig_caep.specs.declared.common_members.Common.{Common}
 use Rattle.sig_caep.specs.declared.kind.CaepKind.{CaepKind}
 use Rattle.sig_caep.specs.declared.kind.CaepKind.TheVariants.{SessionRevoked, TokenClaimsChange, CredentialChange, AssuranceLevelChange, DeviceComplianceChange, SessionEstablished, SessionPresented}
 use Rattle.sig_caep.specs.declared.event.CaepEvent.{CaepEvent}

@@ -10,7 +10,7 @@
 #![tactic(auto)]
 
 mod change;
-mod common;
+mod common_members;
 mod compliance;
 mod direction;
 mod event;
@@ -21,10 +21,11 @@ pub mod laws;
 mod reading;
 #[cfg(test)]
 mod tests;
+mod threads;
 mod writing;
 
 pub use change::Change;
-pub use common::Common;
+pub use common_members::Common;
 pub use compliance::Compliance;
 pub use direction::Direction;
 pub use event::{CaepEvent, from_json, to_json};

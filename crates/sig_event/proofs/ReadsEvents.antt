@@ -22,7 +22,7 @@ use Rattle.sig_risc.specs.declared.event_type.RiscType.{RiscType}
 use Rattle.sig_risc.specs.declared.event_type.RiscType.TheVariants as risc_type
 use Rattle.sig_risc.proofs.ReadsRisc as risc_proofs
 use Rattle.sig_event.specs.Status.{status_text, statuses}
-use Rattle.sig_event.specs.Types.{caep_uri, risc_uri, ssf_uri, uri_of_type, event_types, type_of, fits_subject}
+use Rattle.sig_event.specs.Types.{caep_uri, risc_uri, ssf_uri, uri_of_type, event_types, type_of, fits_subject, published_types, ListsPublished}
 use Rattle.sig_event.specs.Events.{state_rules, update_rules, EventIs, IsEvent, type_checks, event_by, known_checks, event_checks, event_in, event_of, ReadsEvents}
 use Rattle.sig_event.specs.declared.status.Status.{Status}
 use Rattle.sig_event.specs.declared.status.Status.TheVariants.{Enabled, Paused, Disabled}
@@ -37,7 +37,7 @@ use Rattle.sig_event.proofs.EventSteps.{both, both_is}
 -- ---- each URI of a type, and each text of a status, stands for it
 
 pub uri_found : (x : EventType) → type_of (uri_of_type x) ≡ Some x
-unfolding listed uri_of_type event_types
+unfolding listed uri_of_type event_types published_types
 uri_found (Caep caep_type.SessionRevoked) = refl
 uri_found (Caep caep_type.TokenClaimsChange) = refl
 uri_found (Caep caep_type.CredentialChange) = refl
@@ -61,6 +61,32 @@ uri_found (Risc risc_type.RecoveryInformationChanged) = refl
 uri_found (Risc risc_type.SessionsRevoked) = refl
 uri_found Verification = refl
 uri_found StreamUpdated = refl
+
+pub lists_published : ListsPublished
+unfolding listed uri_of_type published_types
+lists_published (Caep caep_type.SessionRevoked) = refl
+lists_published (Caep caep_type.TokenClaimsChange) = refl
+lists_published (Caep caep_type.CredentialChange) = refl
+lists_published (Caep caep_type.AssuranceLevelChange) = refl
+lists_published (Caep caep_type.DeviceComplianceChange) = refl
+lists_published (Caep caep_type.SessionEstablished) = refl
+lists_published (Caep caep_type.SessionPresented) = refl
+lists_published (Risc risc_type.CredentialChangeRequired) = refl
+lists_published (Risc risc_type.AccountPurged) = refl
+lists_published (Risc risc_type.AccountDisabled) = refl
+lists_published (Risc risc_type.AccountEnabled) = refl
+lists_published (Risc risc_type.IdentifierChanged) = refl
+lists_published (Risc risc_type.IdentifierRecycled) = refl
+lists_published (Risc risc_type.CredentialCompromise) = refl
+lists_published (Risc risc_type.OptIn) = refl
+lists_published (Risc risc_type.OptOutInitiated) = refl
+lists_published (Risc risc_type.OptOutCancelled) = refl
+lists_published (Risc risc_type.OptOutEffective) = refl
+lists_published (Risc risc_type.RecoveryActivated) = refl
+lists_published (Risc risc_type.RecoveryInformationChanged) = refl
+lists_published (Risc risc_type.SessionsRevoked) = refl
+lists_published Verification = refl
+lists_published StreamUpdated = refl
 
 status_found : (x : Status) → listed status_text statuses (status_text x) ≡ Some x
 unfolding listed status_text statuses

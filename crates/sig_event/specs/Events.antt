@@ -1,11 +1,13 @@
 -- Events and their payloads (CAEP 1.0; RISC 1.0; OpenID Shared Signals Framework 1.0, sections 8.1.4 and 8.1.5).
-use Rattle.std.specs.Prelude.{◌≡◌, ◌↔◌, ℕ, List, [], ◌∷◌, ◌++◌, codes, map, true, Option, Some, None, option_map, Result, Ok}
-use Rattle.serde_json.specs.Data.{Data, object, no_members}
+use Rattle.std.specs.Prelude.{◌≡◌, ◌↔◌, ◌≤◌, ℕ, List, [], ◌∷◌, ◌++◌, codes, map, true, Option, Some, None, option_map, Result, Ok}
+use Rattle.serde_json.specs.Data.{Data, object, no_members, depth}
+use Rattle.serde_json.specs.Read.{max_depth}
 use Rattle.serde_json.specs.Written.{compact_text}
-use Rattle.sig_json.specs.Canon.{IsCanonical}
+use Rattle.sig_json.specs.Canon.{IsCanonical, without_fraction}
 use Rattle.sig_json.specs.Checks.{Check, check, decided, first_failing, map_fault}
 use Rattle.sig_json.specs.Json.{json_of, member_of}
 use Rattle.sig_json.specs.Members.{IsObject, is_object, Rule, AnyText, OneOf, required, optional, Words, AllHave, payload_checks, text_in, value_of}
+use Rattle.sig_json.specs.Order.{InOrder}
 use Rattle.sig_json.specs.Payloads.{payload_by}
 use Rattle.sig_json.specs.declared.members.PayloadFault.{PayloadFault}
 use Rattle.sig_subject.specs.declared.subject.Subject.{Subject}
@@ -102,6 +104,10 @@ payload_of (event.Verification state) = payload_by state_rules (option_map (λ t
 payload_of (event.StreamUpdated status reason) = payload_by update_rules (Some (Words (status_text status)) ∷ option_map (λ t. Words t) reason ∷ [])
 payload_of (event.Other uri) = object no_members
 
+-- the text of an event's payload; null for one with a fraction, which no event that was read has
+abbrev pub event_text : Event → List ℕ
+event_text e = compact_text (without_fraction (payload_of e))
+
 -- the event's payload is written as a text that spells an object, and the event is what that object says
 abbrev pub IsProperEvent : Event → Subject → Type 0
 IsProperEvent e s = (v : Data) × (json_of (compact_text (payload_of e)) ≡ Some v) × IsEvent e (uri_of e) v s
@@ -111,6 +117,16 @@ IsProperEvent e s = (v : Data) × (json_of (compact_text (payload_of e)) ≡ Som
 -- the relation and the reading agree
 abbrev pub ReadsEvents : Type 0
 ReadsEvents = (e : Event) (uri : List ℕ) (v : Data) (s : Subject) → IsEvent e uri v s ↔ (event_of uri v s ≡ Ok e)
+
+-- what is read of a payload in order that nests at most 127 deep, as any that a text spells and each of its members, is
+-- proper, and is written no deeper
+abbrev pub ReadsProper : Type 0
+ReadsProper = (uri : List ℕ) (v : Data) (s : Subject) (e : Event) → InOrder v → depth v ≤ max_depth → event_of uri v s ≡ Ok e
+    → IsProperEvent e s × (depth (payload_of e) ≤ depth v)
+
+-- the text of a proper event's payload is that of the payload itself
+abbrev pub TextIsPayload : Type 0
+TextIsPayload = (e : Event) (s : Subject) → IsProperEvent e s → event_text e ≡ compact_text (payload_of e)
 
 -- what is written of a proper event is read as an equal one
 abbrev pub ReadsWritten : Type 0

@@ -1,5 +1,6 @@
 pub mod Events
 pub mod Faults
+pub mod News
 pub mod Status
 pub mod Types
 pub use Rattle.sig_json.specs.Answers

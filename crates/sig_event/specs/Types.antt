@@ -1,14 +1,13 @@
 -- The types of events and their URIs, and the subjects that they fit.
-use Rattle.std.specs.Prelude.{ℕ, List, [], ◌∷◌, ◌++◌, ◌||◌, codes, Bool, true, false, not, Option}
+use Rattle.std.specs.Prelude.{◌≡◌, ℕ, List, [], ◌∷◌, ◌++◌, ◌||◌, codes, map, Bool, true, false, not, Option, Some, None, is_some}
 use Rattle.sig_json.specs.Listed.{listed}
 use Rattle.sig_subject.specs.declared.plain.Plain.TheVariants.{Email, Phone}
 use Rattle.sig_subject.specs.declared.simple.Simple.TheVariants as simple
 use Rattle.sig_subject.specs.declared.subject.Subject.{Subject}
 use Rattle.sig_subject.specs.declared.subject.Subject.TheVariants as subject
-use Rattle.sig_caep.specs.Table.{caep_table}
+use Rattle.sig_caep.specs.Table.{caep_table, caep_types}
 use Rattle.sig_caep.specs.declared.event_type.CaepType.{CaepType}
-use Rattle.sig_caep.specs.declared.event_type.CaepType.TheVariants as caep
-use Rattle.sig_risc.specs.Table.{risc_table}
+use Rattle.sig_risc.specs.Table.{risc_table, risc_types}
 use Rattle.sig_risc.specs.declared.event_type.RiscType.{RiscType}
 use Rattle.sig_risc.specs.declared.event_type.RiscType.TheVariants as risc
 use Rattle.sig_event.specs.declared.event_type.EventType.{EventType}
@@ -39,33 +38,25 @@ uri_of_type (Risc type) = risc_uri_of type
 uri_of_type Verification = ssf_uri ++ codes "verification"
 uri_of_type StreamUpdated = ssf_uri ++ codes "stream-updated"
 
--- the types in order: those of CAEP, those of RISC, and the two of a stream
+-- the types that a transmitter publishes, in order: those of CAEP and those of RISC (CAEP 1.0, section 3; RISC 1.0, section 2)
+unfoldable pub published_types : List EventType
+published_types = map (λ t. Caep t) caep_types ++ map (λ t. Risc t) risc_types
+
+-- the types in order: those that are published, and the two of a stream
 unfoldable pub event_types : List EventType
-event_types =
-    Caep caep.SessionRevoked
-    ∷ Caep caep.TokenClaimsChange
-    ∷ Caep caep.CredentialChange
-    ∷ Caep caep.AssuranceLevelChange
-    ∷ Caep caep.DeviceComplianceChange
-    ∷ Caep caep.SessionEstablished
-    ∷ Caep caep.SessionPresented
-    ∷ Risc risc.CredentialChangeRequired
-    ∷ Risc risc.AccountPurged
-    ∷ Risc risc.AccountDisabled
-    ∷ Risc risc.AccountEnabled
-    ∷ Risc risc.IdentifierChanged
-    ∷ Risc risc.IdentifierRecycled
-    ∷ Risc risc.CredentialCompromise
-    ∷ Risc risc.OptIn
-    ∷ Risc risc.OptOutInitiated
-    ∷ Risc risc.OptOutCancelled
-    ∷ Risc risc.OptOutEffective
-    ∷ Risc risc.RecoveryActivated
-    ∷ Risc risc.RecoveryInformationChanged
-    ∷ Risc risc.SessionsRevoked
-    ∷ Verification
-    ∷ StreamUpdated
-    ∷ []
+event_types = published_types ++ Verification ∷ StreamUpdated ∷ []
+
+-- the type is there, and is one that is published
+abbrev pub is_published : Option EventType → Bool
+is_published None = false
+is_published (Some (Caep type)) = true
+is_published (Some (Risc type)) = true
+is_published (Some Verification) = false
+is_published (Some StreamUpdated) = false
+
+-- a type's URI is that of one in the list exactly where the type is published
+abbrev pub ListsPublished : Type 0
+ListsPublished = (type : EventType) → is_some (listed uri_of_type published_types (uri_of_type type)) ≡ is_published (Some type)
 
 -- the type with this URI
 abbrev pub type_of : List ℕ → Option EventType

@@ -1,5 +1,6 @@
 ghost use Rattle.std.specs.Prelude.{◌≡◌, IfOk};
 ghost use Rattle.sig_event.specs.Events.{type_of_event, uri_of};
+ghost use Rattle.sig_event.specs.Types.{is_published};
 
 use crate::{EventType, Status};
 use sig_caep::CaepEvent;
@@ -45,6 +46,13 @@ impl Event {
             Event::StreamUpdated { .. } => Some(EventType::StreamUpdated),
             Event::Other { .. } => None,
         }
+    }
+
+    /// Whether a transmitter publishes events of its type: those of CAEP and of RISC alone.
+    pub fn is_published(&self) -> bool
+        ensures { result ≡ is_published (type_of_event self.now) }
+    {
+        matches!(self, Event::Caep(_) | Event::Risc(_))
     }
 
     /// The URI of its type.

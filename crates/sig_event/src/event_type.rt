@@ -1,5 +1,5 @@
-ghost use Rattle.std.specs.Prelude.{◌≡◌};
-ghost use Rattle.sig_event.specs.Types.{caep_uri_of, event_types, fits_subject, is_about_identifier, is_identifier, risc_uri_of, type_of, uri_of_type};
+ghost use Rattle.std.specs.Prelude.{◌≡◌, Some};
+ghost use Rattle.sig_event.specs.Types.{caep_uri_of, event_types, fits_subject, is_about_identifier, is_identifier, is_published, published_types, risc_uri_of, type_of, uri_of_type};
 
 use sig_caep::CaepType;
 use sig_json::{Listed, Same, value_named};
@@ -19,6 +19,9 @@ pub enum EventType {
     StreamUpdated,
 }
 
+// As many types as CAEP and RISC have; they stand before the two of a stream.
+const PUBLISHED: usize = 21;
+
 impl Listed for EventType {
     ghost use Rattle.sig_event.specs.declared.event_type.EventType.TheVariants.{Verification};
 
@@ -28,7 +31,7 @@ impl Listed for EventType {
 
     ghost otherwise = { Verification };
 
-    #[tactic(auto, unfolding(crate::specs::Types::event_types))]
+    #[tactic(auto, unfolding(crate::specs::Types::event_types, crate::specs::Types::published_types))]
     fn values() -> &'static [EventType] {
         &[
             EventType::Caep(CaepType::SessionRevoked),
@@ -137,6 +140,21 @@ impl EventType {
         ensures { result ≡ type_of uri.now }
     {
         value_named(uri)
+    }
+
+    /// The 21 types that a transmitter publishes, in order: those of CAEP and those of RISC.
+    #[tactic(auto, unfolding(crate::specs::Types::event_types, crate::specs::Types::published_types))]
+    pub fn published() -> &'static [EventType]
+        ensures { result.now ≡ published_types }
+    {
+        &EventType::values()[..PUBLISHED]
+    }
+
+    /// Whether a transmitter publishes events of this type: not those of a stream.
+    pub fn is_published(self) -> bool
+        ensures { result ≡ is_published (Some self) }
+    {
+        matches!(self, EventType::Caep(_) | EventType::Risc(_))
     }
 
     /// Whether an event of this type may be about the subject: one about an identifier is about an e-mail address or a

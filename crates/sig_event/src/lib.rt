@@ -5,8 +5,10 @@
 //! read and is kept by its URI alone.
 //!
 //! Promised: an event is read exactly where the relation of event, URI, payload and subject holds; else the payload that
-//! is no object, the first member that fails, or the subject that doesn't fit is the fault, in this order. What is written
-//! of a proper event is read as an equal one. Left out: how a token carries its events, which the crates above say.
+//! is no object, the first member that fails, or the subject that doesn't fit is the fault, in this order. What is read of
+//! a text, or of a member of what a text spells, is proper; what is written of a proper event is read as an equal one; and
+//! a subject and an event that are read of a body nest in a token no deeper than there (`laws`). Left out: how a token
+//! carries its events, which the crates above say.
 #![tactic(auto)]
 
 mod claims;
@@ -18,6 +20,7 @@ mod reading;
 mod status;
 #[cfg(test)]
 mod tests;
+mod threads;
 mod writing;
 
 pub use claims::Claims;
@@ -27,4 +30,4 @@ pub use event_type::EventType;
 pub use reading::from_json;
 pub use sig_json::PayloadFault;
 pub use status::Status;
-pub use writing::to_json;
+pub use writing::{event_text, to_json};

@@ -34,7 +34,7 @@ pub fn from_json(
     }
 }
 
-/// An event that isn't read.
+// An event that isn't read.
 fn other(alloc: Global, uri: &str) -> Result<Event, EventFault>
     ensures { Answers EventFault.Memory result (Ok (Event.Other uri.now)) }
 {
@@ -42,7 +42,7 @@ fn other(alloc: Global, uri: &str) -> Result<Event, EventFault>
     Ok(Event::Other { uri })
 }
 
-/// The event of this type that the payload says about the subject.
+// The event of this type that the payload says about the subject.
 fn about(
     alloc: Global,
     event_type: EventType,
@@ -58,7 +58,7 @@ fn about(
     }
 }
 
-/// The event, where it may be about its subject.
+// The event, where it may be about its subject.
 fn if_fits(event: Event, fits: bool) -> Result<Event, EventFault>
     ensures { result ≡ (if fits then Ok event else Err EventFault.Subject) }
 {
@@ -69,7 +69,7 @@ fn if_fits(event: Event, fits: bool) -> Result<Event, EventFault>
     }
 }
 
-/// The event of this type that the payload says.
+// The event of this type that the payload says.
 fn of_type(alloc: Global, event_type: EventType, payload: &Value) -> Result<Event, PayloadFault>
     ensures { Answers PayloadFault.Memory result
         (decided (first_failing (type_checks event_type (view payload.now))) (event_by event_type (view payload.now))) }

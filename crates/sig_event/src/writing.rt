@@ -1,10 +1,10 @@
 ghost use Rattle.std.specs.Prelude.{◌≡◌, IfOk};
 ghost use Rattle.serde_json.specs.View.{view};
-ghost use Rattle.sig_event.specs.Events.{payload_of};
+ghost use Rattle.sig_event.specs.Events.{event_text, payload_of};
 
 use crate::{Event, Status};
 use serde_json::{Map, Value};
-use sig_json::{AnyText, Memory, OneOf, Text, put_member, put_optional_member};
+use sig_json::{AnyText, Memory, OneOf, Text, canon_or_null, put_member, put_optional_member};
 use std::alloc::Global;
 
 /// The event's payload; an empty object for an event that isn't read.
@@ -18,6 +18,15 @@ pub fn to_json(alloc: Global, event: &Event) -> Result<Value, Memory>
         Event::StreamUpdated { status, reason } => stream_updated(alloc, *status, reason),
         Event::Other { .. } => Ok(Value::Object(Map::new(alloc))),
     }
+}
+
+/// The canonical text of the event's payload. It is `null` where a fraction stands in the payload, which none that was
+/// read has.
+pub fn event_text(alloc: Global, event: &Event) -> Result<Text, Memory>
+    ensures { IfOk result (λ t. t ≡ event_text event.now) }
+{
+    let payload = to_json(alloc, event)?;
+    canon_or_null(alloc, &payload)
 }
 
 fn verification(alloc: Global, state: &Option<Text>) -> Result<Value, Memory>

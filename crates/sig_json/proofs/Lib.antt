@@ -13,3 +13,4 @@ pub mod Shapes
 pub mod PutMembers
 pub mod CanonicalPayloads
 pub mod Fractions
+pub mod ShallowPayloads

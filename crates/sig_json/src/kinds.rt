@@ -165,7 +165,7 @@ impl MemberKind for TextOrTexts {
     }
 }
 
-/// The canonical text of a member, where it is of its kind and no fraction stands in it.
+// The canonical text of a member, where it is of its kind and no fraction stands in it.
 fn keep_whole(
     alloc: Global,
     name: &str,

@@ -1,3 +1,4 @@
 pub mod CanonicalRisc
 pub mod ReadsRisc
 pub mod WrittenRisc
+pub mod ShallowRisc

@@ -14,6 +14,7 @@ pub mod laws;
 mod reading;
 #[cfg(test)]
 mod tests;
+mod threads;
 mod writing;
 
 pub use event::RiscEvent;

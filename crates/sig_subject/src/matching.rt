@@ -49,7 +49,7 @@ fn same_simple(a: &Simple, b: &Simple) -> bool
     a.same(b)
 }
 
-/// The part of this name.
+// The part of this name.
 fn part_named<'a>(name: &str, members: &'a [Member]) -> Option<&'a Simple>
     ensures { option_map (λ s. s.now) result ≡ part_named name.now members.now }
 {
@@ -61,7 +61,7 @@ fn part_named<'a>(name: &str, members: &'a [Member]) -> Option<&'a Simple>
     None
 }
 
-/// Whether the part of the same name is identical; `missing` where there is none.
+// Whether the part of the same name is identical; `missing` where there is none.
 fn agrees(member: &Member, others: &[Member], missing: bool) -> bool
     ensures { result ≡ agrees missing member.now.simple (part_named member.now.name others.now) }
 {
@@ -71,7 +71,7 @@ fn agrees(member: &Member, others: &[Member], missing: bool) -> bool
     }
 }
 
-/// Whether each member agrees with the others.
+// Whether each member agrees with the others.
 fn all_agree(members: &[Member], others: &[Member], missing: bool) -> bool
     ensures { result ≡ all_agree missing members.now others.now }
 {
@@ -83,7 +83,7 @@ fn all_agree(members: &[Member], others: &[Member], missing: bool) -> bool
     true
 }
 
-/// Whether one of the members is this identifier.
+// Whether one of the members is this identifier.
 fn is_part_of(simple: &Simple, members: &[Member]) -> bool
     ensures { result ≡ list_any (λ m. same_simple simple.now m.simple) members.now }
 {

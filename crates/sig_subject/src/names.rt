@@ -7,7 +7,7 @@ ghost use Rattle.sig_subject.specs.Reading.{other_in, has_part};
 
 use serde_json::{Map, Value};
 
-/// Whether the name is one of these.
+// Whether the name is one of these.
 fn is_listed(name: &str, names: &[&str]) -> bool
     ensures { result ≡ list_any (bytes_eq name.now) (map (λ n. n.now) names.now) }
 {
@@ -32,7 +32,7 @@ pub fn other_member<'a>(members: &'a Map<String, Value>, names: &[&str]) -> Opti
     None
 }
 
-/// Whether the name is one of the seven parts of which a complex subject has at least one.
+// Whether the name is one of the seven parts of which a complex subject has at least one.
 fn is_part(name: &str) -> bool
     ensures { result ≡ list_any (bytes_eq name.now) part_names }
 {

@@ -33,7 +33,7 @@ pub fn at_member(alloc: Global, name: &str) -> SubjectFault
     }
 }
 
-/// A required text: `Member` where it is missing, empty, or begins otherwise.
+// A required text: `Member` where it is missing, empty, or begins otherwise.
 fn required(alloc: Global, value: &Value, name: &str, prefix: &str) -> Result<Text, SubjectFault>
     ensures { Answers SubjectFault.Memory result (decided (first_failing (field_check (view value.now) (field name.now prefix.now) ∷ [])) (text_in name.now (view value.now))) }
 {
@@ -58,7 +58,7 @@ pub fn only(alloc: Global, value: &Value, names: &[&str]) -> Result<(), SubjectF
     }
 }
 
-/// The text of a format with one.
+// The text of a format with one.
 fn one_text(alloc: Global, value: &Value, name: &str, prefix: &str) -> Result<Text, SubjectFault>
     ensures { Answers SubjectFault.Memory result
         (decided (first_failing (field_check (view value.now) (field name.now prefix.now) ∷ has_no_other (name.now ∷ []) (view value.now) ∷ [])) (text_in name.now (view value.now))) }
@@ -68,7 +68,7 @@ fn one_text(alloc: Global, value: &Value, name: &str, prefix: &str) -> Result<Te
     Ok(text)
 }
 
-/// The texts of a format with two.
+// The texts of a format with two.
 fn two_texts(
     alloc: Global,
     value: &Value,
@@ -86,7 +86,7 @@ fn two_texts(
     Ok((first, second))
 }
 
-/// The whole value as canonical text: `Fraction` where a fraction stands in it.
+// The whole value as canonical text: `Fraction` where a fraction stands in it.
 fn whole(alloc: Global, value: &Value) -> Result<Text, SubjectFault>
     ensures { Answers SubjectFault.Memory result (decided (first_failing (check SubjectFault.Fraction (not (has_float (view value.now))) ∷ [])) (compact_text (view value.now))) }
 {

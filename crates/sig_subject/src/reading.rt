@@ -13,7 +13,7 @@ use serde_json::{Map, Value};
 use sig_json::{Items, Text};
 use std::alloc::Global;
 
-/// A part of a complex subject.
+// A part of a complex subject.
 fn part_from(alloc: Global, name: &str, value: &Value) -> Result<Member, SubjectFault>
     ensures { Answers SubjectFault.Memory result (decided (first_failing (part_checks (name.now, view value.now))) (part_by (name.now, view value.now))) }
 {
@@ -28,7 +28,7 @@ fn part_from(alloc: Global, name: &str, value: &Value) -> Result<Member, Subject
     Ok(Member { name, simple })
 }
 
-/// The parts of a complex subject: every member but `format`, in byte order.
+// The parts of a complex subject: every member but `format`, in byte order.
 fn parts_from(alloc: Global, members: &Map<String, Value>) -> Result<Items<Member>, SubjectFault>
     ensures { Answers SubjectFault.Memory result (decided (first_failing (flat_map part_checks (parts_of (members_view members.now.entries)))) (map part_by (parts_of (members_view members.now.entries)))) }
 {
@@ -42,7 +42,7 @@ fn parts_from(alloc: Global, members: &Map<String, Value>) -> Result<Items<Membe
     Ok(Items::of(out))
 }
 
-/// The members of a complex subject.
+// The members of a complex subject.
 fn complex_from(alloc: Global, value: &Value) -> Result<Items<Member>, SubjectFault>
     ensures { Answers SubjectFault.Memory result (decided (first_failing (complex_checks (view value.now))) (parts_by (view value.now))) }
 {

@@ -10,7 +10,7 @@ use serde_json::Value;
 use sig_json::{Items, list_of};
 use std::alloc::Global;
 
-/// An item of `identifiers`.
+// An item of `identifiers`.
 fn item_from(alloc: Global, value: &Value) -> Result<Plain, SubjectFault>
     ensures { Answers SubjectFault.Memory result (decided (first_failing (item_checks (view value.now))) (item_by (view value.now))) }
 {
@@ -24,7 +24,7 @@ fn item_from(alloc: Global, value: &Value) -> Result<Plain, SubjectFault>
     }
 }
 
-/// The items of `identifiers`.
+// The items of `identifiers`.
 fn items_from(alloc: Global, list: &[Value]) -> Result<Items<Plain>, SubjectFault>
     ensures { Answers SubjectFault.Memory result (decided (first_failing (flat_map item_checks (map view list.now))) (map item_by (map view list.now))) }
 {
@@ -36,7 +36,7 @@ fn items_from(alloc: Global, list: &[Value]) -> Result<Items<Plain>, SubjectFaul
     Ok(Items::of(out))
 }
 
-/// The identifiers of aliases.
+// The identifiers of aliases.
 fn identifiers_from(alloc: Global, value: &Value) -> Result<Items<Plain>, SubjectFault>
     ensures { Answers SubjectFault.Memory result (decided (first_failing (aliases_checks (view value.now))) (identifiers_by (view value.now))) }
 {

@@ -9,7 +9,7 @@ use Rattle.sig_json.proofs.Decided.{value_is}
 use Rattle.sig_json.proofs.MemberSteps.{stops_at, goes_on, ends_with}
 use Rattle.sig_caep.specs.Lists.{initiator_text, initiators, initiator_in}
 use Rattle.sig_caep.specs.Events.{common_in}
-use Rattle.sig_caep.proofs.common.Common.from_json.Goals as goal
+use Rattle.sig_caep.proofs.common_members.Common.from_json.Goals as goal
 
 abbrev event_timestamp_rule : Rule
 event_timestamp_rule = optional (codes "event_timestamp") Whole

@@ -1,5 +1,0 @@
-use Rattle.sig_outbox.proofs.SameNews.{same_news_equal}
-use Rattle.sig_outbox.proofs.laws.same_news_are_equal.Goals as goal
-
-pub returns : goal.returns
-returns c = same_news_equal
