@@ -5,7 +5,8 @@ use Rattle.std.proofs.Math.ListN.{set, get_or-map}
 use Rattle.std.proofs.lemmas.List.Edits.{map_over_more}
 use Rattle.sig_outbox.specs.declared.debt.Debt.{Debt}
 use Rattle.sig_outbox.specs.declared.fact.SettledItem.{SettledItem}
-use Rattle.sig_outbox.specs.History.{Stream, is_named, is_due, News}
+use Rattle.sig_outbox.specs.History.{Stream, is_named, is_due}
+use Rattle.sig_event.specs.News.{News}
 use Rattle.sig_outbox.specs.Balance.{Owing, Balance, owing_in, left_of, paid, charged}
 
 pub settled_once : (stream : List ℕ) (items : List SettledItem) (b : Balance) (s : Stream) (owed left : List Debt) (room : ℕ)

@@ -18,7 +18,8 @@ use Rattle.sig_outbox.specs.declared.call.PollAsk.{PollAsk}
 use Rattle.sig_outbox.specs.declared.fact.Fact.{Fact}
 use Rattle.sig_outbox.specs.declared.fact.Fact.TheVariants as fact
 use Rattle.sig_outbox.specs.declared.fact.SettledItem.{SettledItem}
-use Rattle.sig_outbox.specs.History.{Stream, Parts, Made, Publication, client_in, created_by, news, stands, stream_name, News}
+use Rattle.sig_outbox.specs.History.{Stream, Parts, Made, Publication, client_in, created_by, stands, stream_name}
+use Rattle.sig_event.specs.News.{news, News}
 use Rattle.sig_outbox.specs.Owed.{Sum, names_number, owed_by, owed_in, sum_of}
 use Rattle.sig_outbox.specs.Sound.{IsProperRules, are_owed, each_once, is_client_name, is_fitting, is_next, IsProperCall, is_proper_client, is_sound, may_be_made}
 use Rattle.sig_outbox.specs.Table.{change_of, client_of, created_fact, has_number, has_stream, is_long, is_past, keeps, made_change, made_over_top, next_conf, outcome_item, over_top, polled_change, publication_of, published_change, published_over_top, publishes, refused_as, refused_item, settled_fact, settled_item, settled_items, settling, streams_of}

@@ -12,20 +12,21 @@ use Rattle.uuid.proofs.TextLemmas.{hyphenated_ascii}
 use Rattle.sig_json.specs.declared.limits.TheConstants.{LAST_NUMBER}
 use Rattle.sig_event.specs.declared.claims.Claims.{Claims}
 use Rattle.sig_json.specs.Canon.{without_fraction}
+use Rattle.sig_json.proofs.Fractions.{without_shallow}
 use Rattle.sig_set.specs.Written.{IsProperClaims, audience_data, payload_of}
 use Rattle.serde_json.specs.Data.{Data, depth, items_depth, null, string}
 use Rattle.serde_json.specs.Read.{max_depth}
 use Rattle.serde_json.specs.View.{items_of}
-use Rattle.serde_json.specs.Written.{has_float}
 use Rattle.sig_subject.specs.Written.{subject_data}
 use Rattle.sig_event.specs.Events as events
 use Rattle.sig_outbox.specs.declared.configuration.StreamConf.{StreamConf}
 use Rattle.sig_set.proofs.ProperClaims.{ascii, proper_by_parts}
 use Rattle.sig_outbox.specs.declared.fact.Fact.{Fact}
 use Rattle.sig_outbox.specs.declared.fact.Fact.TheVariants.{Created, Published, Settled}
-use Rattle.sig_outbox.specs.History.{Stream, Parts, Made, client_in, count_one, created_by, claims_for, due, hyphen, is_due, jti_of, made_by, next_token, parts_after, stands, stream_name, with_token, News, news}
+use Rattle.sig_outbox.specs.History.{Stream, Parts, Made, client_in, count_one, created_by, claims_for, due, hyphen, is_due, jti_of, made_by, next_token, parts_after, stands, stream_name, with_token}
+use Rattle.sig_event.specs.News.{News, news, IsProperNews, told_data}
 use Rattle.sig_outbox.specs.Owed.{Sum, owed_by, sum_of}
-use Rattle.sig_outbox.specs.Sound.{IsProperNews, told_data, is_client_name, is_fitting, is_name_character, is_next}
+use Rattle.sig_outbox.specs.Sound.{is_client_name, is_fitting, is_name_character, is_next}
 use Rattle.sig_outbox.specs.Table.{is_long, is_past}
 use Rattle.sig_outbox.proofs.OwedLemmas.{IsMadeFor, IsNewName, IsWithin, made_for_after, made_of, within_after}
 use Rattle.sig_outbox.proofs.UriTexts.{ascii_more, ascii_none, published_utf8}
@@ -106,12 +107,6 @@ jti_filled store stream n = filled (hyphenated_text lower store ++ codes "." ++ 
 -- ---- the tokens of a publication
 
 -- news that nest no deeper than is read make a payload that doesn't either
-without_shallow : (d : Data) → depth (without_fraction d) ≤ depth d
-without_shallow d = elim (has_float d) as (λ b. depth (if b then null else d) ≤ depth d) [
-  | true ↦ omega arith
-  | false ↦ omega arith
-]
-
 texts_flat : (texts : List (List ℕ)) → items_depth (items_of (map string texts)) ≡ 0
 texts_flat [] = refl
 texts_flat (text ∷ texts) = omega (arith, texts_flat texts)

@@ -22,4 +22,3 @@ pub mod PreparedLemmas
 pub mod LeftLemmas
 pub mod NameLemmas
 pub mod ProperLemmas
-pub mod SameNews

@@ -5,7 +5,8 @@ use Rattle.std.proofs.lemmas.Bool.{ne_eqb, or_from, or_parts}
 use Rattle.std.proofs.lemmas.List.Elements.{All-append, All-contains_itself, All-filter, All-head, All-nil, All-cons, All-tail, All-weaker, Contains-append_left, Contains-append_right, filter_passes}
 use Rattle.sig_outbox.specs.declared.fact.Fact.{Fact}
 use Rattle.sig_outbox.specs.declared.fact.Fact.TheVariants.{Created, Published, Settled}
-use Rattle.sig_outbox.specs.History.{Stream, Parts, Made, is_before, is_due, is_named, made_by, next_token, parts_after, parts_of, put_in_order, stands, with_token, News, news}
+use Rattle.sig_outbox.specs.History.{Stream, Parts, Made, is_before, is_due, is_named, made_by, next_token, parts_after, parts_of, put_in_order, stands, with_token}
+use Rattle.sig_event.specs.News.{News, news}
 use Rattle.sig_outbox.specs.Owed.{Sum, is_of, owed_after, owed_by, owed_in, sum_of, survives}
 use Rattle.sig_outbox.specs.Table.{has_number}
 use Rattle.sig_outbox.proofs.JoinLemmas.{found}

@@ -10,7 +10,8 @@ use Rattle.sig_outbox.specs.declared.debt.Debt.{Debt}
 use Rattle.sig_outbox.specs.declared.token.Issued.{Issued}
 use Rattle.sig_outbox.specs.declared.fact.Fact.{Fact}
 use Rattle.sig_outbox.specs.declared.fact.Fact.TheVariants.{Published}
-use Rattle.sig_outbox.specs.History.{Stream, Count, Publication, Parts, Made, is_named, is_due, stands, with_token, next_token, made_by, issued_of, parts_after, News, claims_for}
+use Rattle.sig_outbox.specs.History.{Stream, Count, Publication, Parts, Made, is_named, is_due, stands, with_token, next_token, made_by, issued_of, parts_after, claims_for}
+use Rattle.sig_event.specs.News.{News}
 use Rattle.sig_outbox.specs.Owed.{Sum, is_of, owed_in, owed_after, sum_of}
 use Rattle.sig_outbox.specs.Sound.{may_be_made}
 use Rattle.sig_outbox.specs.Table.{is_past, is_long}

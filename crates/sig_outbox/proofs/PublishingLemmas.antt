@@ -10,7 +10,8 @@ use Rattle.sig_outbox.specs.declared.answer.Answer.TheVariants as answer
 use Rattle.sig_outbox.specs.declared.carried.Carried.TheVariants as carried
 use Rattle.sig_outbox.specs.declared.fact.Fact.TheVariants.{Published}
 use Rattle.sig_outbox.specs.declared.step.PrepareFault.TheVariants as faults
-use Rattle.sig_outbox.specs.History.{Stream, Count, Publication, Made, is_due, next_token, issued_of, News}
+use Rattle.sig_outbox.specs.History.{Stream, Count, Publication, Made, is_due, next_token, issued_of}
+use Rattle.sig_event.specs.News.{News}
 use Rattle.sig_outbox.specs.Owed.{empty_sum}
 use Rattle.sig_outbox.specs.Table.{largest, is_past, is_long, told_by, publication_told}
 use Rattle.sig_outbox.specs.Kept.{Rooms, HaveRoom}

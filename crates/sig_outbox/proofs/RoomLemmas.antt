@@ -3,7 +3,8 @@ use Rattle.std.proofs.Common.{◌≡◌, ◌∙◌, ap, sym, ℕ, ◌+◌, ◌�
 use Rattle.std.proofs.Math.Seq.{take-append_seam}
 use Rattle.std.proofs.lemmas.List.Elements.{All-cons, All-nil, All-head, All-tail}
 use Rattle.sig_json.specs.declared.limits.TheConstants.{LAST_NUMBER}
-use Rattle.sig_outbox.specs.History.{is_due, News}
+use Rattle.sig_outbox.specs.History.{is_due}
+use Rattle.sig_event.specs.News.{News}
 use Rattle.sig_outbox.specs.Balance.{Balance, owing_in, room_in, stream_in}
 use Rattle.sig_outbox.specs.Kept.{HasRoomFor, IsBelowTop, HaveRoom}
 use Rattle.sig_outbox.proofs.OwingLemmas.{Each}

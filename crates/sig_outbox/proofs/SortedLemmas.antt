@@ -9,7 +9,8 @@ use Rattle.std.proofs.lemmas.List.Elements.{All-head, All-nil, All-tail}
 use Rattle.std.proofs.lemmas.Map.Text.{is_eq-slice_cmp}
 use Rattle.sig_outbox.specs.declared.fact.Fact.{Fact}
 use Rattle.sig_outbox.specs.declared.fact.Fact.TheVariants.{Created, Published, Settled}
-use Rattle.sig_outbox.specs.History.{Stream, Count, News, Parts, client_in, comes_before, created_by, is_before, news, parts_after, put_in_order, with_token}
+use Rattle.sig_outbox.specs.History.{Stream, Count, Parts, client_in, comes_before, created_by, is_before, parts_after, put_in_order, with_token}
+use Rattle.sig_event.specs.News.{News, news}
 use Rattle.sig_outbox.specs.Laws.{AreSorted, StandsBefore, StreamsAreSorted}
 use Rattle.sig_outbox.specs.Owed.{Sum, empty_sum, sum_of}
 use Rattle.sig_outbox.specs.Sound.{is_fitting, is_sound}

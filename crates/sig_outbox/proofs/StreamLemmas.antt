@@ -9,7 +9,8 @@ use Rattle.std.proofs.lemmas.List.Elements.{All-cons, All-head, All-nil, All-tai
 use Rattle.std.proofs.lemmas.List.Folds.{list_any_none}
 use Rattle.std.proofs.lemmas.Slice.Eq.{bytes_eq-Decides}
 use Rattle.sig_json.specs.declared.limits.TheConstants.{LAST_NUMBER, CLIENT_NAME_BYTES}
-use Rattle.sig_outbox.specs.History.{Stream, Count, client_in, count_one, created_by, hyphen, is_before, is_due, is_named, put_in_order, stands, stream_name, with_token, News}
+use Rattle.sig_outbox.specs.History.{Stream, Count, client_in, count_one, created_by, hyphen, is_before, is_due, is_named, put_in_order, stands, stream_name, with_token}
+use Rattle.sig_event.specs.News.{News}
 use Rattle.sig_outbox.specs.Sound.{is_client_name, is_name_character}
 
 -- ---- texts

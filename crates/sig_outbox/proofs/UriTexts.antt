@@ -10,9 +10,8 @@ use Rattle.sig_event.specs.declared.event.Event.{Event}
 use Rattle.sig_event.specs.declared.event.Event.TheVariants as event
 use Rattle.sig_event.specs.declared.event_type.EventType.{EventType}
 use Rattle.sig_event.specs.Events.{type_of_event, uri_of}
-use Rattle.sig_event.specs.Types.{event_types, uri_of_type}
+use Rattle.sig_event.specs.Types.{event_types, is_published, published_types, uri_of_type}
 use Rattle.sig_event.proofs.ReadsEvents.{uri_found}
-use Rattle.sig_outbox.specs.Sound.{is_published}
 
 pub ascii_more : (b : ℕ) (bs : List ℕ) → b < 128 → IsAscii bs → IsAscii (b ∷ bs)
 ascii_more b bs low rest zero = low
@@ -40,7 +39,7 @@ found_passes p q (y ∷ ys) x all is =
     ] is
 
 known_utf8 : (type : EventType) → IsUtf8 (uri_of_type type)
-unfolding uri_of_type event_types listed
+unfolding uri_of_type event_types published_types listed
 known_utf8 type =
     let low : List ℕ → Bool = list_all (λ b. nat_lt b 128) in
     IsUtf8-from_ascii (uri_of_type type) (low_ascii (uri_of_type type)

@@ -8,7 +8,8 @@ use Rattle.sig_event.specs.declared.event.Event.TheVariants as event
 use Rattle.sig_outbox.specs.declared.debt.Debt.{Debt}
 use Rattle.sig_outbox.specs.declared.token.Issued.{Issued}
 use Rattle.sig_outbox.specs.declared.fact.SettledItem.{SettledItem}
-use Rattle.sig_outbox.specs.History.{Stream, Count, News, Publication, Made, claims_for, news, next_token, is_due, is_before, is_named}
+use Rattle.sig_outbox.specs.History.{Stream, Count, Publication, Made, claims_for, next_token, is_due, is_before, is_named}
+use Rattle.sig_event.specs.News.{News, news}
 use Rattle.sig_outbox.specs.Owed.{Sum, names_number, empty_sum}
 
 -- a stream and the tokens that it owes

@@ -8,6 +8,7 @@ use Rattle.sig_subject.specs.declared.subject.Subject.{Subject}
 use Rattle.sig_event.specs.declared.claims.Claims.{Claims}
 use Rattle.sig_event.specs.declared.event.Event.{Event}
 use Rattle.sig_event.specs.Events.{uri_of}
+use Rattle.sig_event.specs.News.{News, news}
 use Rattle.sig_outbox.specs.declared.want.Defaults.{Defaults}
 use Rattle.sig_outbox.specs.declared.want.Defaults.TheVariants as defaults
 use Rattle.sig_outbox.specs.declared.configuration.StreamConf.{StreamConf}
@@ -26,11 +27,6 @@ pub record Stream : Type 0 where
 pub record Count : Type 0 where
   pub client : List ℕ
   pub count : ℕ
-
--- what a publication says: whom it is about, and what happened
-pub record News : Type 0 where
-  pub subject : Subject
-  pub event : Event
 
 -- a publication, with the tokens that it made
 pub record Publication : Type 0 where
@@ -107,10 +103,6 @@ is_requested uri (Some uris) = list_any (bytes_eq uri) uris
 abbrev pub has_subject : Defaults → Subject → Bool
 has_subject defaults.All subject = true
 has_subject defaults.None subject = false
-
--- what a subject and an event say
-abbrev pub news : Subject → Event → News
-news subject event = record { subject = subject; event = event }
 
 -- whether news are due on a stream (Shared Signals Framework 1.0, sections 7 and 8.1.1)
 abbrev pub is_due : News → Stream → Bool

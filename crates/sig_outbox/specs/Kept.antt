@@ -6,7 +6,8 @@ use Rattle.sig_outbox.specs.declared.carried.Carried.TheVariants as carried
 use Rattle.sig_outbox.specs.declared.debt.Debt.{Debt}
 use Rattle.sig_outbox.specs.declared.fact.Fact.{Fact}
 use Rattle.sig_outbox.specs.declared.fact.Fact.TheVariants.{Created, Published, Settled}
-use Rattle.sig_outbox.specs.History.{Stream, Count, News, Parts, stream_name, client_in, created_by, stands, is_due, made_by, issued_of, news}
+use Rattle.sig_outbox.specs.History.{Stream, Count, Parts, stream_name, client_in, created_by, stands, is_due, made_by, issued_of}
+use Rattle.sig_event.specs.News.{News, news}
 use Rattle.sig_outbox.specs.Owed.{Sum}
 use Rattle.sig_outbox.specs.Balance.{Owing, Balance, stream_in}
 

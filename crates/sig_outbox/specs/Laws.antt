@@ -2,10 +2,10 @@
 use Rattle.std.specs.Prelude.{◌≡◌, ◌↔◌, ℕ, List, [], ◌∷◌, ◌++◌, map, filter, true, ⊤}
 use Rattle.sig_outbox.specs.declared.fact.Fact.{Fact}
 use Rattle.sig_event.specs.Events.{IsProperEvent}
-use Rattle.sig_outbox.specs.History.{News, Stream, is_before, tokens_of}
+use Rattle.sig_outbox.specs.History.{Stream, is_before, tokens_of}
+use Rattle.sig_event.specs.News.{News, is_same_news}
 use Rattle.sig_outbox.specs.Owed.{Sum, sum_of, empty_sum, owed_by, made_along, token_in, is_left}
 use Rattle.sig_outbox.specs.Sound.{is_sound}
-use Rattle.sig_outbox.specs.Table.{is_same_news}
 
 -- a history may be taken up where an earlier part of it ended: what both parts come to is what the second comes to over
 -- what the first came to
@@ -32,7 +32,3 @@ AreSorted (s ∷ ss) = StandsBefore s ss × AreSorted ss
 abbrev pub StreamsAreSorted : Type 0
 StreamsAreSorted = (store_id : List ℕ) (facts : List Fact) → is_sound (empty_sum store_id) facts ≡ true
     → AreSorted (sum_of (empty_sum store_id) facts).parts.streams
-
--- news with proper events are the same exactly where they are equal: one event about one subject
-abbrev pub SameNewsAreEqual : Type 0
-SameNewsAreEqual = (a b : News) → IsProperEvent a.event a.subject → IsProperEvent b.event b.subject → (is_same_news a b ≡ true) ↔ (a ≡ b)

@@ -16,7 +16,8 @@ use Rattle.sig_outbox.specs.declared.call.Call.TheVariants.{Create, Poll, Publis
 use Rattle.sig_outbox.specs.declared.fact.Fact.{Fact}
 use Rattle.sig_outbox.specs.declared.fact.Fact.TheVariants as fact
 use Rattle.sig_outbox.specs.declared.fact.SettledItem.{SettledItem}
-use Rattle.sig_outbox.specs.History.{Parts, Made, News, client_in, stream_name, created_by, stands, made_by, news}
+use Rattle.sig_outbox.specs.History.{Parts, Made, client_in, stream_name, created_by, stands, made_by}
+use Rattle.sig_event.specs.News.{IsProperNews, news}
 use Rattle.sig_outbox.specs.Owed.{Sum, names_number, owed_by, sum_of}
 use Rattle.sig_outbox.specs.Table.{streams_of, has_number, is_past, is_long}
 
@@ -76,28 +77,6 @@ is_proper_rules rules = is_utf8 rules.issuer && list_all is_proper_client rules.
 
 abbrev pub IsProperRules : Rules → Type 0
 IsProperRules rules = is_proper_rules rules ≡ true
-
--- an event type that a transmitter publishes: those of CAEP and of RISC (CAEP 1.0, section 3; RISC 1.0, section 2)
-abbrev pub is_published : Option EventType → Bool
-is_published None = false
-is_published (Some (types.Caep type)) = true
-is_published (Some (types.Risc type)) = true
-is_published (Some types.Verification) = false
-is_published (Some types.StreamUpdated) = false
-
--- the subject and the events of a payload, as one object
-abbrev pub told_data : News → Data
-told_data n = object
-    (member (codes "events") (object (member (uri_of n.event) (payload_of n.event) no_members))
-    (member (codes "sub_id") (subject_data n.subject) no_members))
-
--- news that may be published: a proper subject, a proper event about it of a type that is published, and both nest in a
--- token no deeper than is read
-pub record IsProperNews (n : News) : Type 0 where
-  pub subject : IsProperSubject n.subject
-  pub event : IsProperEvent n.event n.subject
-  pub type : is_published (type_of_event n.event) ≡ true
-  pub nests : depth (told_data n) ≤ max_depth
 
 -- a call that requests and scripts make
 abbrev pub IsProperCall : Call → Type 0

@@ -29,7 +29,8 @@ use Rattle.sig_outbox.specs.declared.step.PrepareFault.TheVariants as faults
 use Rattle.sig_outbox.specs.declared.fact.Fact.{Fact}
 use Rattle.sig_outbox.specs.declared.fact.Fact.TheVariants as fact
 use Rattle.sig_outbox.specs.declared.fact.SettledItem.{SettledItem}
-use Rattle.sig_outbox.specs.History.{Stream, Parts, Made, News, Publication, stream_name, created_by, is_named, made_by, issued_of, news}
+use Rattle.sig_outbox.specs.History.{Stream, Parts, Made, Publication, stream_name, created_by, is_named, made_by, issued_of}
+use Rattle.sig_event.specs.News.{News, is_same_news, news}
 use Rattle.sig_outbox.specs.Owed.{Sum, owed_by, offered_by, sum_of}
 
 -- the client of a name, where one is configured
@@ -164,15 +165,6 @@ published_fact id n now = fact.Published id n.subject n.event now
 -- the tokens that news would make
 abbrev pub publishes : Parts → List ℕ → News → ℕ → List Made
 publishes parts id n now = made_by parts (published_fact id n now)
-
--- the payload of an event as text
-abbrev pub event_text : Event → List ℕ
-event_text e = compact_text (without_fraction (payload_of e))
-
--- the same news: identical subjects, and events of one type whose payloads are written alike
-abbrev pub is_same_news : News → News → Bool
-is_same_news a b =
-    is_identical a.subject b.subject && bytes_eq (uri_of a.event) (uri_of b.event) && bytes_eq (event_text a.event) (event_text b.event)
 
 -- what a publication is answered; its id may have been used before
 abbrev pub published_answer : Parts → News → List Made → Option Publication → Answer

@@ -41,7 +41,7 @@ impl Model for Account {
 impl Account {
     ghost use Rattle.sig_outbox.specs.Balance.{Balance, opened_balance, charged, paid};
     ghost use Rattle.sig_outbox.specs.History as history;
-    ghost use Rattle.sig_outbox.specs.History.{news};
+    ghost use Rattle.sig_event.specs.News.{news};
     ghost use Rattle.sig_outbox.specs.Kept.{HasRoomFor};
 
     /// A new stream, for which no token was made.
@@ -126,6 +126,7 @@ impl Account {
     {
         if self.is_due(subject, event) {
             self.made += 1;
+            // The caller has made room, so the push keeps the debt.
             let _ = self.owed.push(Debt {
                 number: self.made,
                 time,

@@ -2,6 +2,7 @@
 
 ghost use Rattle.std.specs.Prelude.{◌≡◌, ℕ, ◌+◌, ◌<◌, ◌≤◌, ◌^◌, All, OnOk, OnErr, None, Some, length, map, true, option_map, vec_len, vec_capacity};
 ghost use Rattle.std.specs.List.{insert, slice_get};
+ghost use Rattle.sig_event.specs.News.{news};
 ghost use Rattle.sig_outbox.specs.History as history;
 ghost use Rattle.sig_outbox.specs.Table as table;
 ghost use Rattle.sig_outbox.specs.Balance.{Balance, owing_in, stream_in, owing_named, put_balance, charged, paid};
@@ -58,6 +59,7 @@ pub(crate) fn put(accounts: &mut Vec<Account>, new: Account)
     ensures { accounts.new.items ≡ put_balance new accounts.old.items }
 {
     let place = place_for(accounts.as_slice(), &new);
+    // There is room, so the insertion keeps the stream.
     let _ = accounts.insert(place, new);
 }
 
@@ -68,7 +70,7 @@ pub(crate) fn reserve_due(
     event: &Event,
 ) -> Result<(), Memory>
     ensures same { map owing_in accounts.new ≡ map owing_in accounts.old }
-    ensures ok { OnOk result (All (HasRoomFor (history.news subject.now event.now)) accounts.new) }
+    ensures ok { OnOk result (All (HasRoomFor (news subject.now event.now)) accounts.new) }
 {
     for account in accounts.iter_mut() {
         account.reserve_for(subject, event)?;
@@ -84,9 +86,9 @@ pub(crate) fn charge_all(
     time: u64,
     place: usize,
 )
-    requires rooms { All (HasRoomFor (history.news subject.now event.now)) accounts.old }
-    requires numbers { All (IsBelowTop (history.news subject.now event.now)) accounts.old }
-    ensures { map owing_in accounts.new ≡ map (charged (history.news subject.now event.now) time place) (map owing_in accounts.old) }
+    requires rooms { All (HasRoomFor (news subject.now event.now)) accounts.old }
+    requires numbers { All (IsBelowTop (news subject.now event.now)) accounts.old }
+    ensures { map owing_in accounts.new ≡ map (charged (news subject.now event.now) time place) (map owing_in accounts.old) }
 {
     for account in accounts.iter_mut() {
         account.charge(subject, event, time, place);

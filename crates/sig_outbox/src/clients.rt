@@ -41,6 +41,7 @@ pub(crate) fn count_one(created: &mut Vec<Counted>, client: Text)
     if count_again(created.as_mut_slice(), &client) {
         return;
     }
+    // There is room, so the push keeps the count.
     let _ = created.push(Counted::first(client));
 }
 

@@ -1,6 +1,6 @@
 //! Laws over the definitions: each function's contract is the law, and nothing calls it.
 
-ghost use Rattle.sig_outbox.specs.Laws.{HistoriesJoin, OwesWhatIsLeft, SameNewsAreEqual, StreamsAreSorted};
+ghost use Rattle.sig_outbox.specs.Laws.{HistoriesJoin, OwesWhatIsLeft, StreamsAreSorted};
 
 /// A history may be taken up where an earlier part of it ended: what both parts come to is what the second comes to over
 /// what the first came to, whatever the base. So a checkpoint loses nothing.
@@ -17,10 +17,4 @@ pub fn owed_is_what_no_later_fact_takes_off()
 /// by number.
 pub fn streams_stand_in_order()
     ensures { StreamsAreSorted }
-{}
-
-/// News with proper events are the same exactly where they are equal: one event about one subject. So of such news a used
-/// name is answered as before only for those that were published under it.
-pub fn same_news_are_equal()
-    ensures { SameNewsAreEqual }
 {}

@@ -35,6 +35,7 @@ mod settling;
 mod step;
 #[cfg(test)]
 mod tests;
+mod threads;
 mod token;
 mod tokens;
 mod want;

@@ -54,7 +54,8 @@ impl Model for Outbox {
 }
 
 impl Outbox {
-    ghost use Rattle.sig_outbox.specs.History.{client_in, issued_of, made_by, news};
+    ghost use Rattle.sig_outbox.specs.History.{client_in, issued_of, made_by};
+    ghost use Rattle.sig_event.specs.News.{news};
     ghost use Rattle.sig_outbox.specs.Kept.{HasRoom, HaveRoom};
     ghost use Rattle.sig_outbox.specs.Owed.{empty_sum, sum_of, owed_count};
     ghost use Rattle.sig_outbox.specs.Sound.{Fits, IsProperRules, is_next, may_be_made};
@@ -228,6 +229,7 @@ impl Outbox {
         let place = self.published.len();
         charge_all(self.accounts.as_mut_slice(), &subject, &event, time, place);
         let publication = Publication::of(id, subject, event, tokens);
+        // There is room, so the push keeps the publication.
         let _ = self.published.push(publication);
     }
 

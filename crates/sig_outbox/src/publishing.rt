@@ -3,6 +3,7 @@
 ghost use Rattle.std.specs.Prelude.{◌≡◌, [], ◌∷◌, ℕ, ◌+◌, ◌<◌, ◌≤◌, List, All, IfOk, OnOk, IsSome, None, Some, map, max, option_map, vec_len, vec_capacity, if◌then◌else◌};
 ghost use Rattle.std.specs.List.{list_any};
 ghost use Rattle.sig_json.specs.Answers.{Answers, result_map};
+ghost use Rattle.sig_event.specs.News.{is_same_news, news};
 ghost use Rattle.sig_outbox.specs.Balance.{IsNumbered, owing_in, stream_in, is_full, sum_with, tokens_on};
 ghost use Rattle.sig_outbox.specs.Balance as balance;
 ghost use Rattle.sig_outbox.specs.History as history;
@@ -19,9 +20,9 @@ use crate::carried::Carried;
 use crate::publication::Publication;
 use crate::tokens::claims_for;
 use crate::{Answer, Fact, Issued, PrepareFault, Prepared, Step};
-use sig_event::{Event, to_json};
+use sig_event::{Event, event_text};
 use sig_json::limits::{LAST_NUMBER, PAYLOAD_BYTES};
-use sig_json::{Items, Memory, Text, canon, copy_items, has_fraction};
+use sig_json::{Items, Memory, Text, copy_items};
 use sig_set::payload_text;
 use sig_subject::{Subject, identical};
 use std::alloc::Global;
@@ -41,17 +42,6 @@ pub(crate) fn publication_named<'a>(
     None
 }
 
-// The payload of an event as text; no fraction stands in a proper one.
-fn event_text(alloc: Global, event: &Event) -> Result<Text, Memory>
-    ensures { IfOk result (λ text. text ≡ table.event_text event.now) }
-{
-    let payload = to_json(alloc, event)?;
-    if has_fraction(&payload) {
-        return Text::of(alloc, "null");
-    }
-    canon(alloc, &payload)
-}
-
 // Whether a publication says this event of this subject.
 fn says(
     alloc: Global,
@@ -59,7 +49,7 @@ fn says(
     subject: &Subject,
     event: &Event,
 ) -> Result<bool, Memory>
-    ensures { IfOk result (λ same. same ≡ table.is_same_news publication.now.news (history.news subject.now event.now)) }
+    ensures { IfOk result (λ same. same ≡ is_same_news publication.now.news (news subject.now event.now)) }
 {
     let told = publication.event();
     if !identical(publication.subject(), subject) || told.uri() != event.uri() {
@@ -78,7 +68,7 @@ fn answer_again(
     subject: &Subject,
     event: &Event,
 ) -> Result<Answer, Memory>
-    ensures { IfOk result (λ a. a ≡ (if table.is_same_news publication.now.news (history.news subject.now event.now) then answer.Published store_id publication.now.issued else answer.Conflict)) }
+    ensures { IfOk result (λ a. a ≡ (if is_same_news publication.now.news (news subject.now event.now) then answer.Published store_id publication.now.issued else answer.Conflict)) }
 {
     if !says(alloc, publication, subject, event)? {
         return Ok(Answer::Conflict);
@@ -97,7 +87,7 @@ fn payload_size(
     now: u64,
 ) -> Result<usize, Memory>
     requires { IsNumbered account.now }
-    ensures { IfOk result (λ n. n ≡ table.largest (tokens_on store_id (history.news subject.now event.now) now (account.now.owing ∷ []))) }
+    ensures { IfOk result (λ n. n ≡ table.largest (tokens_on store_id (news subject.now event.now) now (account.now.owing ∷ []))) }
 {
     if !account.is_due(subject, event) {
         return Ok(0);
@@ -126,7 +116,7 @@ fn largest_payload(
     now: u64,
 ) -> Result<usize, Memory>
     requires { All IsNumbered accounts.now }
-    ensures { IfOk result (λ n. n ≡ table.largest (tokens_on store_id (history.news subject.now event.now) now (map owing_in accounts.now))) }
+    ensures { IfOk result (λ n. n ≡ table.largest (tokens_on store_id (news subject.now event.now) now (map owing_in accounts.now))) }
 {
     let mut largest = 0;
     for account in accounts {
@@ -144,7 +134,7 @@ fn larger(a: usize, b: usize) -> usize
 
 // Whether a token to be made would get a number that is too great.
 fn any_full(accounts: &[Account], subject: &Subject, event: &Event) -> bool
-    ensures { result ≡ list_any (is_full (history.news subject.now event.now)) (map owing_in accounts.now) }
+    ensures { result ≡ list_any (is_full (news subject.now event.now)) (map owing_in accounts.now) }
 {
     for account in accounts {
         if account.is_due(subject, event) && LAST_NUMBER <= account.made() {
@@ -162,7 +152,7 @@ fn issued_on(
     event: &Event,
 ) -> Result<Items<Issued>, Memory>
     requires { All IsNumbered accounts.now }
-    ensures { IfOk result (λ items. items ≡ balance.issued_on (history.news subject.now event.now) (map owing_in accounts.now)) }
+    ensures { IfOk result (λ items. items ≡ balance.issued_on (news subject.now event.now) (map owing_in accounts.now)) }
 {
     let mut issued = Vec::new(alloc);
     for account in accounts {
@@ -214,7 +204,7 @@ fn reserve_all(
 ) -> Result<(), Memory>
     ensures same { map owing_in accounts.new.items ≡ map owing_in accounts.old.items }
     ensures published { published.new.items ≡ published.old.items }
-    ensures tokens { OnOk result (All (HasRoomFor (history.news subject.now event.now)) accounts.new.items) }
+    ensures tokens { OnOk result (All (HasRoomFor (news subject.now event.now)) accounts.new.items) }
     ensures last { OnOk result (vec_len published.new < vec_capacity published.new) }
 {
     published.reserve(1)?;
@@ -236,11 +226,11 @@ fn first_publication(
     ensures same { map owing_in accounts.new.items ≡ map owing_in accounts.old.items }
     ensures published { published.new.items ≡ published.old.items }
     ensures answers { (created : List history.Count) → Answers PrepareFault.Memory (result_map told result)
-        (table.publication_told (sum_with store_id (map owing_in accounts.old.items) created published.old.items).parts id.now (history.news subject.now event.now) now None) }
+        (table.publication_told (sum_with store_id (map owing_in accounts.old.items) created published.old.items).parts id.now (news subject.now event.now) now None) }
     ensures ready { IfOk result (λ step. (created : List history.Count) (room : Rooms) → 0 < room.published →
-        HaveRoom (history.news subject.now event.now) (map stream_in (map owing_in accounts.old.items)) room.tokens →
+        HaveRoom (news subject.now event.now) (map stream_in (map owing_in accounts.old.items)) room.tokens →
         IsReady (record { sum = sum_with store_id (map owing_in accounts.old.items) created published.old.items; room = room }) step.change) }
-    ensures room { IfOk result (λ step. IsSome step.change → (vec_len published.new < vec_capacity published.new) × All (HasRoomFor (history.news subject.now event.now)) accounts.new.items) }
+    ensures room { IfOk result (λ step. IsSome step.change → (vec_len published.new < vec_capacity published.new) × All (HasRoomFor (news subject.now event.now)) accounts.new.items) }
 {
     let size = largest_payload(alloc, store_id, accounts.as_slice(), subject, event, now)?;
     if size > PAYLOAD_BYTES {
@@ -270,12 +260,12 @@ pub(crate) fn prepare_publication(
     ensures same { map owing_in accounts.new.items ≡ map owing_in accounts.old.items }
     ensures published { published.new.items ≡ published.old.items }
     ensures answers { (created : List history.Count) → Answers PrepareFault.Memory (result_map told result)
-        (table.publication_told (sum_with store_id (map owing_in accounts.old.items) created published.old.items).parts id.now (history.news subject.now event.now) now
+        (table.publication_told (sum_with store_id (map owing_in accounts.old.items) created published.old.items).parts id.now (news subject.now event.now) now
         (table.publication_of id.now published.old.items)) }
     ensures ready { IfOk result (λ step. (created : List history.Count) (room : Rooms) → 0 < room.published →
-        HaveRoom (history.news subject.now event.now) (map stream_in (map owing_in accounts.old.items)) room.tokens →
+        HaveRoom (news subject.now event.now) (map stream_in (map owing_in accounts.old.items)) room.tokens →
         IsReady (record { sum = sum_with store_id (map owing_in accounts.old.items) created published.old.items; room = room }) step.change) }
-    ensures room { IfOk result (λ step. IsSome step.change → (vec_len published.new < vec_capacity published.new) × All (HasRoomFor (history.news subject.now event.now)) accounts.new.items) }
+    ensures room { IfOk result (λ step. IsSome step.change → (vec_len published.new < vec_capacity published.new) × All (HasRoomFor (news subject.now event.now)) accounts.new.items) }
 {
     if let Some(publication) = publication_named(published.as_slice(), id) {
         let answer = answer_again(alloc, store_id, publication, subject, event)?;

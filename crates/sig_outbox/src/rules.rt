@@ -18,7 +18,7 @@ pub struct Client {
 pub struct Rules {
     /// Who makes the tokens.
     pub issuer: Text,
-    /// The front of the addresses of its endpoints.
+    /// The prefix of the addresses of its endpoints.
     pub base: Text,
     /// Which subjects a new stream has.
     pub defaults: Defaults,

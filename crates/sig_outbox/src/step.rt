@@ -1,8 +1,8 @@
 ghost use Rattle.std.specs.Prelude.{◌≡◌, None};
 
 use crate::{Answer, Prepared};
-use sig_json::Memory;
-use std::alloc::{AllocError, AllocFailed};
+use sig_json::MemoryRefusal;
+use thiserror::Error;
 
 /// How a call is answered, and the fact that it makes.
 #[derive(Debug, Drop)]
@@ -27,40 +27,22 @@ impl Step {
 }
 
 /// Why a call wasn't answered.
-#[derive(Clone, Copy, Debug, PartialEq, Eq, Hash)]
+#[derive(Clone, Copy, Debug, PartialEq, Eq, Hash, Error)]
 pub enum PrepareFault {
     /// A stream or a token would get this number, which is above 2^62.
+    #[error("number {0} is above 2^62")]
     Number(u64),
-    /// Want of memory.
+    /// Out of memory.
+    #[error("out of memory")]
     Memory,
 }
 
-impl From<AllocError> for PrepareFault {
+impl<R: MemoryRefusal> From<R> for PrepareFault {
     ghost use Rattle.sig_outbox.specs.declared.step.PrepareFault.TheVariants.{Memory};
 
     ghost from_gives = { λ _ e. e ≡ Memory };
 
-    fn from(_error: AllocError) -> PrepareFault {
-        PrepareFault::Memory
-    }
-}
-
-impl<T: Drop> From<AllocFailed<T>> for PrepareFault {
-    ghost use Rattle.sig_outbox.specs.declared.step.PrepareFault.TheVariants.{Memory};
-
-    ghost from_gives = { λ _ e. e ≡ Memory };
-
-    fn from(_error: AllocFailed<T>) -> PrepareFault {
-        PrepareFault::Memory
-    }
-}
-
-impl From<Memory> for PrepareFault {
-    ghost use Rattle.sig_outbox.specs.declared.step.PrepareFault.TheVariants.{Memory};
-
-    ghost from_gives = { λ _ e. e ≡ Memory };
-
-    fn from(_error: Memory) -> PrepareFault {
+    fn from(_refusal: R) -> PrepareFault {
         PrepareFault::Memory
     }
 }

@@ -1,6 +1,7 @@
 //! Tokens with what they say.
 
 ghost use Rattle.std.specs.Prelude.{◌≡◌, ◌<◌, ◌∷◌, [], IfOk, length, map};
+ghost use Rattle.sig_event.specs.News.{news};
 ghost use Rattle.sig_outbox.specs.Balance.{made_of};
 ghost use Rattle.sig_outbox.specs.History as history;
 ghost use Rattle.sig_outbox.specs.Table as table;
@@ -25,7 +26,7 @@ pub(crate) fn claims_for(
     subject: &Subject,
     event: &Event,
 ) -> Result<Claims, Memory>
-    ensures { IfOk result (λ c. c ≡ history.claims_for store_id conf.now number time (history.news subject.now event.now)) }
+    ensures { IfOk result (λ c. c ≡ history.claims_for store_id conf.now number time (news subject.now event.now)) }
 {
     Ok(Claims {
         iss: conf.iss.copy(alloc)?,

@@ -18,10 +18,11 @@ use Rattle.sig_outbox.specs.declared.call.PollAsk.{PollAsk}
 use Rattle.sig_outbox.specs.declared.answer.Answer.TheVariants as answer
 use Rattle.sig_outbox.specs.declared.want.Want.{Want}
 use Rattle.sig_outbox.specs.declared.fact.Fact.{Fact}
-use Rattle.sig_outbox.specs.History.{Made, Parts, Publication, made_by, parts_after, parts_of, tokens_of, issued_of, News, news}
+use Rattle.sig_outbox.specs.History.{Made, Parts, Publication, made_by, parts_after, parts_of, tokens_of, issued_of}
+use Rattle.sig_event.specs.News.{News, news, is_same_news}
 use Rattle.sig_outbox.specs.Owed.{Sum, empty_sum, offered_by, owed_by, sum_of}
 use Rattle.sig_outbox.specs.Sound.{IsProperCall, IsProperRules, is_sound}
-use Rattle.sig_outbox.specs.Table.{answer_of, change_of, client_of, has_stream, is_long, is_same_news, largest, made_answer, next_conf, over_top, page_of, page_size, polled_answer, polled_change, publication_of, published_answer, publishes, streams_of, token_of}
+use Rattle.sig_outbox.specs.Table.{answer_of, change_of, client_of, has_stream, is_long, largest, made_answer, next_conf, over_top, page_of, page_size, polled_answer, polled_change, publication_of, published_answer, publishes, streams_of, token_of}
 use Rattle.sig_outbox.proofs.FitLemmas.{IsRight, change_right, sound_more}
 use Rattle.sig_outbox.proofs.JoinLemmas.{joined}
 use Rattle.sig_outbox.proofs.KeptLemmas.{IsKept, kept_after}

@@ -23,7 +23,8 @@ use Rattle.sig_outbox.specs.declared.want.Want.{Want}
 use Rattle.sig_outbox.specs.declared.fact.Fact.{Fact}
 use Rattle.sig_outbox.specs.declared.fact.Fact.TheVariants as fact
 use Rattle.sig_outbox.specs.declared.fact.SettledItem.{SettledItem}
-use Rattle.sig_outbox.specs.History.{Made, Parts, Publication, jti_of, News, news}
+use Rattle.sig_outbox.specs.History.{Made, Parts, Publication, jti_of}
+use Rattle.sig_event.specs.News.{News, news}
 use Rattle.sig_outbox.specs.Owed.{Sum, owed_by}
 use Rattle.sig_outbox.specs.Table.{change_of, client_of, created_fact, has_number, has_stream, is_long, keeps, made_change, next_conf, outcome_item, polled_change, publication_of, published_change, publishes, refused_as, refused_item, settled_fact, settled_items, settling, streams_of, token_of}
 use Rattle.sig_outbox.proofs.KeptLemmas.{IsKept, IsOurs, IsOurToken}

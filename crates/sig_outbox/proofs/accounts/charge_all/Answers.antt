@@ -1,4 +1,4 @@
-use Rattle.sig_outbox.specs.History.{news}
+use Rattle.sig_event.specs.News.{news}
 use Rattle.std.proofs.Common.{◌≢◌, arith, get_or-set_other}
 use Rattle.sig_outbox.specs.Balance.{charged}
 use Rattle.sig_outbox.proofs.BalanceLemmas.{over_more}

@@ -1,4 +1,4 @@
-use Rattle.sig_outbox.specs.History.{news}
+use Rattle.sig_event.specs.News.{news}
 use Rattle.std.proofs.Common.{◌≡◌, ℕ, ◌≤◌, ◌++◌, take, drop, map, get_or}
 use Rattle.sig_outbox.specs.Balance.{Balance, owing_in, charged}
 use Rattle.sig_outbox.proofs.accounts.charge_all.Given as goal

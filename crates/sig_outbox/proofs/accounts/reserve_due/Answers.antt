@@ -1,4 +1,4 @@
-use Rattle.sig_outbox.specs.History.{news}
+use Rattle.sig_event.specs.News.{news}
 use Rattle.std.proofs.Common.{◌∙◌, subst, sym, ◌≢◌, arith, get_or, get_or-set_other, get_or-set_same, below_more}
 use Rattle.std.proofs.Math.Seq.{map-set_same}
 use Rattle.std.proofs.Math.ListN.{set}

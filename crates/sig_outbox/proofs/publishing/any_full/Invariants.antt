@@ -1,4 +1,4 @@
-use Rattle.sig_outbox.specs.History.{news}
+use Rattle.sig_event.specs.News.{news}
 use Rattle.std.proofs.Common.{◌≡◌, drop, map}
 use Rattle.std.specs.List.{list_any}
 use Rattle.sig_outbox.specs.Balance.{is_full, owing_in}

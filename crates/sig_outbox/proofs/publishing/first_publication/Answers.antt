@@ -1,4 +1,4 @@
-use Rattle.sig_outbox.specs.History.{news}
+use Rattle.sig_event.specs.News.{news}
 use Rattle.std.proofs.Common.{◌≡◌, ◌∙◌, ap, sym, subst, List, map, true, false, Some, Ok, inr, arith}
 use Rattle.std.specs.List.{list_any}
 use Rattle.sig_outbox.specs.declared.token.Issued.{Issued}

@@ -1,4 +1,4 @@
-use Rattle.sig_outbox.specs.History.{news}
+use Rattle.sig_event.specs.News.{news}
 use Rattle.std.proofs.Common.{◌≡◌, take, map}
 use Rattle.sig_outbox.specs.Balance.{owing_in, tokens_on}
 use Rattle.sig_outbox.specs.Table as table

@@ -1,6 +1,7 @@
 use Rattle.std.proofs.Common.{◌≡◌, ◌∙◌, sym, ap, arith, true, ◌++◌, ◌∷◌, [], ◌+◌, ◌<◌, IsOk, if◌then◌else◌}
 use Rattle.std.specs.Prelude.{vec_len, vec_capacity}
-use Rattle.sig_outbox.specs.History.{is_due, news}
+use Rattle.sig_outbox.specs.History.{is_due}
+use Rattle.sig_event.specs.News.{news}
 use Rattle.sig_outbox.specs.Balance.{Balance}
 use Rattle.sig_outbox.proofs.BalanceLemmas.{charged_once}
 use Rattle.sig_outbox.proofs.account.Account.charge.Goals as goal

@@ -1,7 +1,8 @@
 use Rattle.std.proofs.Common.{sym, subst, ◌<◌, ◌-◌, List, map, length, IsSome, arith, All}
 use Rattle.std.specs.Prelude.{vec_len, vec_capacity}
 use Rattle.sig_outbox.specs.declared.step.Step.{Step}
-use Rattle.sig_outbox.specs.History.{Count, Publication, news}
+use Rattle.sig_outbox.specs.History.{Count, Publication}
+use Rattle.sig_event.specs.News.{news}
 use Rattle.sig_outbox.specs.Balance.{Owing, Balance, owing_in, room_in, stream_in, sum_with}
 use Rattle.sig_outbox.specs.Kept.{Held, Rooms, HaveRoom, HasRoomFor}
 use Rattle.sig_outbox.specs.Steps.{IsReady}

@@ -2,7 +2,8 @@ use Rattle.std.proofs.Common.{◌≡◌, ◌∙◌, ap, sym, subst, List, ℕ, �
 use Rattle.std.specs.Prelude.{vec_len, vec_capacity}
 use Rattle.std.proofs.lemmas.List.{length-append}
 use Rattle.sig_outbox.specs.declared.fact.Fact.TheVariants.{Published}
-use Rattle.sig_outbox.specs.History.{Publication, made_by, issued_of, news}
+use Rattle.sig_outbox.specs.History.{Publication, made_by, issued_of}
+use Rattle.sig_event.specs.News.{news}
 use Rattle.sig_outbox.specs.Owed.{sum_of}
 use Rattle.sig_outbox.specs.Balance.{Owing, Balance, owing_in, room_in, stream_in, sum_with, charged}
 use Rattle.sig_outbox.specs.Kept.{Held, AreKept, HasRoomFor, IsBelowTop, HaveRoom}
