@@ -1,5 +1,5 @@
 -- What each fact keeps of a history that proper rules made: streams and tokens are as those rules have them.
-use Rattle.std.proofs.Common.{◌≡◌, ◌∙◌, ap, sym, subst, ℕ, ◌+◌, ◌<◌, ◌≤◌, List, [], ◌∷◌, ◌++◌, Bool, true, false, not, ◌&&◌, length, map, IsUtf8, if◌then◌else◌, refl, inl, inr, arith, length-append}
+use Rattle.std.proofs.Common.{◌≡◌, ◌∙◌, ap, sym, subst, ℕ, ◌+◌, ◌<◌, ◌≤◌, List, [], ◌∷◌, ◌++◌, Bool, true, false, not, ◌&&◌, length, map, IsUtf8, refl, inl, inr, arith, length-append}
 use Rattle.std.specs.Prelude.{All, codes, decimal, nat_le, nat_lt}
 use Rattle.std.specs.List.{list_any, list_all}
 use Rattle.std.specs.Str.{IsAscii}
@@ -14,7 +14,7 @@ use Rattle.sig_event.specs.declared.claims.Claims.{Claims}
 use Rattle.sig_json.specs.Canon.{without_fraction}
 use Rattle.sig_json.proofs.Fractions.{without_shallow}
 use Rattle.sig_set.specs.Written.{IsProperClaims, audience_data, payload_of}
-use Rattle.serde_json.specs.Data.{Data, depth, items_depth, null, string}
+use Rattle.serde_json.specs.Data.{depth, items_depth, string}
 use Rattle.serde_json.specs.Read.{max_depth}
 use Rattle.serde_json.specs.View.{items_of}
 use Rattle.sig_subject.specs.Written.{subject_data}

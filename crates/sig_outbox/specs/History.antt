@@ -6,7 +6,6 @@ use Rattle.std.specs.Ordering.{is_lt, nat_cmp}
 use Rattle.uuid.specs.Text.{hyphenated_text, lower}
 use Rattle.sig_subject.specs.declared.subject.Subject.{Subject}
 use Rattle.sig_event.specs.declared.claims.Claims.{Claims}
-use Rattle.sig_event.specs.declared.event.Event.{Event}
 use Rattle.sig_event.specs.Events.{uri_of}
 use Rattle.sig_event.specs.News.{News, news}
 use Rattle.sig_outbox.specs.declared.want.Defaults.{Defaults}

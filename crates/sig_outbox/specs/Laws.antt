@@ -1,9 +1,7 @@
 -- What holds of histories, whatever they say.
-use Rattle.std.specs.Prelude.{◌≡◌, ◌↔◌, ℕ, List, [], ◌∷◌, ◌++◌, map, filter, true, ⊤}
+use Rattle.std.specs.Prelude.{◌≡◌, ℕ, List, [], ◌∷◌, ◌++◌, map, filter, true, ⊤}
 use Rattle.sig_outbox.specs.declared.fact.Fact.{Fact}
-use Rattle.sig_event.specs.Events.{IsProperEvent}
 use Rattle.sig_outbox.specs.History.{Stream, is_before, tokens_of}
-use Rattle.sig_event.specs.News.{News, is_same_news}
 use Rattle.sig_outbox.specs.Owed.{Sum, sum_of, empty_sum, owed_by, made_along, token_in, is_left}
 use Rattle.sig_outbox.specs.Sound.{is_sound}
 

@@ -1,13 +1,7 @@
 -- Facts that fit a history, and rules and calls that are proper.
-use Rattle.std.specs.Prelude.{◌≡◌, ◌≤◌, ℕ, List, [], ◌∷◌, ◌+◌, Bool, true, false, not, ◌&&◌, ◌||◌, Option, Some, None, bytes_eq, codes, length, nat_lt, nat_le}
+use Rattle.std.specs.Prelude.{◌≡◌, ℕ, List, [], ◌∷◌, ◌+◌, Bool, true, not, ◌&&◌, ◌||◌, bytes_eq, length, nat_lt, nat_le}
 use Rattle.std.specs.List.{list_any, list_all}
 use Rattle.std.specs.Str.{is_utf8}
-use Rattle.serde_json.specs.Data.{Data, object, no_members, member, depth}
-use Rattle.serde_json.specs.Read.{max_depth}
-use Rattle.sig_subject.specs.Written.{IsProperSubject, subject_data}
-use Rattle.sig_event.specs.declared.event_type.EventType.{EventType}
-use Rattle.sig_event.specs.declared.event_type.EventType.TheVariants as types
-use Rattle.sig_event.specs.Events.{IsProperEvent, payload_of, type_of_event, uri_of}
 use Rattle.sig_json.specs.declared.limits.TheConstants.{LAST_NUMBER, STREAMS_PER_CLIENT, CLIENT_NAME_BYTES}
 use Rattle.sig_outbox.specs.declared.rules.Client.{Client}
 use Rattle.sig_outbox.specs.declared.rules.Rules.{Rules}

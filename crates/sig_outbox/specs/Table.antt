@@ -4,11 +4,6 @@ use Rattle.std.specs.Prelude.{ℕ, List, [], ◌∷◌, ◌+◌, ◌==◌, Bool,
 use Rattle.std.specs.List.{list_any, filter_map}
 use Rattle.std.specs.Option.{option_to_list}
 use Rattle.sig_json.specs.declared.limits.TheConstants.{LAST_NUMBER, PAYLOAD_BYTES, STREAMS_PER_CLIENT, TOKENS_PER_PAGE}
-use Rattle.serde_json.specs.Written.{compact_text}
-use Rattle.sig_subject.specs.Matching.{is_identical}
-use Rattle.sig_event.specs.declared.event.Event.{Event}
-use Rattle.sig_event.specs.Events.{payload_of, uri_of}
-use Rattle.sig_json.specs.Canon.{without_fraction}
 use Rattle.sig_set.specs.Written.{payload_text_of}
 use Rattle.sig_outbox.specs.declared.want.Want.{Want}
 use Rattle.sig_outbox.specs.declared.want.Delivery.TheVariants as delivery
