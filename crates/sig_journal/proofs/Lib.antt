@@ -1,0 +1,9 @@
+pub mod Adding
+pub mod Appending
+pub mod Fronts
+pub mod Images
+pub mod LoadLemmas
+pub mod Moments
+pub mod NewStores
+pub mod RecordLemmas
+pub mod Stores

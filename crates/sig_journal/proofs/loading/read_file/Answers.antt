@@ -1,0 +1,24 @@
+use Rattle.std.proofs.Common.{inl, inr, ⊎_elim, ℕ, List, sym, ◌∙◌, ap}
+use Rattle.sig_journal.specs.Content.{content_view}
+use Rattle.sig_journal.specs.Layout.{content_of}
+use Rattle.sig_journal.specs.Store.{file_number, in_file_at}
+use Rattle.sig_journal.proofs.LoadLemmas.{told_ok, told_err}
+use Rattle.sig_journal.proofs.loading.read_file.Goals as goal
+
+pub returns-in-Ok-clause-told : goal.returns-in-Ok-clause-told
+returns-in-Ok-clause-told g c = λ told.
+    let seen = g.D.Disk.seen c.args.file.now in
+    let bytes = c.as_slice.ensures.value ∙ c.in_ok-bytes.ensures.bytes told in
+    told_ok c.args.in_b (content_of c.args.kind seen) (content_view c.in-Ok.content)
+    (ap (λ (l : List ℕ). in_file_at (file_number c.args.in_b) (content_of c.args.kind l)) (sym bytes)
+    ∙ ap (λ (n : ℕ). in_file_at n (content_of c.args.kind c.as_slice.result.now)) (sym c.number_of.ensures) ∙ c.in-Ok.ensures.content)
+
+pub returns-clause-told : goal.returns-clause-told
+returns-clause-told g c = λ told.
+    let seen = g.D.Disk.seen c.args.file.now in
+    let bytes = c.as_slice.ensures.value ∙ c.in_ok-bytes.ensures.bytes told in
+    ⊎_elim (λ memory. inl memory)
+    (λ damaged. inr (inr (told_err c.args.in_b (content_of c.args.kind seen) c.in-Err.fault
+    (ap (λ (l : List ℕ). in_file_at (file_number c.args.in_b) (content_of c.args.kind l)) (sym bytes)
+    ∙ ap (λ (n : ℕ). in_file_at n (content_of c.args.kind c.as_slice.result.now)) (sym c.number_of.ensures) ∙ damaged))))
+    c.in-Err.ensures.content

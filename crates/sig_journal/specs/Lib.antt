@@ -1,0 +1,10 @@
+pub mod Added
+pub mod Content
+pub mod Durable
+pub mod Journal
+pub mod Layout
+pub mod Loaded
+pub mod OnlyRead
+pub mod Opened
+pub mod Records
+pub mod Store

@@ -1,0 +1,43 @@
+//! A journal of records over the two files of a store, one of which is in force.
+//!
+//! It stands on `sig_json` and `sig_outside`. A file is a header, a snapshot and records; each record stands behind a gate
+//! of one byte, and a closed gate ends them (`specs/Layout` has the table):
+//!
+//! ```text
+//!     | gate | header | snapshot | open gate | length | payload | open gate | length | payload | closed gate | no meaning
+//!       ^ open in the file in force                                            `end` is the place behind it ^
+//! ```
+//!
+//! `append` writes length, payload and the closed gate of the next record behind the closed gate that stands last, syncs,
+//! opens that gate by a write of its own, and syncs. So no checksum is trusted: a torn write lies behind a closed gate or is
+//! the gate alone.
+//!
+//! Promised: at `Ok` of `append` no crash takes the record away, and at any moment before a crash leaves what the store told
+//! or that with the record; `load` gives what the store tells, and `Damaged` names the file and the offset exactly where the
+//! bytes are no journal; a refusal comes only where a disk has counted a fault, where 2^62 is passed, or for memory.
+//! Left out: a crash while `make` runs; that a real file is such a disk; what a payload means.
+#![tactic(auto)]
+
+mod added;
+mod content;
+mod durable;
+mod fault;
+mod framed;
+mod gate;
+mod header;
+mod journal;
+mod kind;
+mod layout;
+mod loaded;
+mod loading;
+mod making;
+mod reading;
+mod records;
+
+pub use fault::LoadFault;
+pub use framed::{Framed, frame};
+pub use journal::{AppendFault, Journal};
+pub use kind::Kind;
+pub use layout::{GATE_OPEN, HEADER_BYTES, MAGIC, RECORD_HEAD_BYTES, STORE_ID_BYTES, VERSION};
+pub use loaded::{LoadRefused, Loaded, load};
+pub use making::{MakeFault, make};
