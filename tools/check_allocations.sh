@@ -1,7 +1,6 @@
 #!/usr/bin/env bash
-# Refuses each allocation of a run in turn: of the stored run of `fold`, and of the runs of `fold` and `replay` over the
-# examples. Each run has to end with the whole text, or with status 9 after a prefix of it and the last line of that
-# status.
+# Refuses each allocation of a run in turn, of `fold` and `replay` over the examples. Each run has to end with the whole
+# text, or with status 9 after a prefix of it and the last line of that status.
 #
 # The built program gets its memory by the C library's `malloc` and `realloc` alone. A small library that is loaded
 # before that one counts these calls, and refuses those of the given numbers: each alone, and each with all after it.
@@ -74,7 +73,6 @@ check_run() { # INPUT WORDS..
     echo "$1: $calls allocations, each refused alone and with all after it: status 0 ${ended[0]} times, 9 ${ended[9]} times"
 }
 
-mapfile -t words <crates/signals/args
-check_run crates/signals/stdin "${words[@]}"
-check_run examples/tokens.txt "${words[@]}"
+check_run examples/tokens.txt fold https://idp.example https://rp.example MDEyMzQ1Njc4OWFiY2RlZjAxMjM0NTY3ODlhYmNkZWY
+check_run examples/first.txt replay
 check_run examples/replay.txt replay

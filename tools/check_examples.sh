@@ -1,11 +1,12 @@
 #!/usr/bin/env bash
-# The tokens of the examples and of the tests are those that the signing script makes, and each example prints the text
+# The tokens of the examples and of the cases are those that the signing script makes, and each example prints the text
 # beside it, which was worked out by hand.
 set -eu
 cd "$(dirname "$0")/.."
 python3 -B tools/sign_fold.py examples | cmp - examples/tokens.txt
 python3 -B tools/sign_fold.py guard | cmp - crates/sig_guard/stdin
-python3 -B tools/sign_fold.py source | tr -d ' \n' | cmp - <(tr -d ' \n' <crates/signals/src/tests/tokens.rt)
+python3 -B tools/make_runs.py cases | cmp - crates/sig_runs/stdin
+python3 -B tools/make_runs.py answers | cmp - crates/sig_runs/stdout
 python3 -B tools/sign_tokens.py source | tr -d ' \n' | cmp - <(tr -d ' \n' <crates/sig_set/src/tests/tokens.rt)
 
 folder=$(mktemp -d)

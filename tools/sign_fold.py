@@ -1,8 +1,8 @@
 #!/usr/bin/env python3
-"""Makes the tokens of the examples and of the tests of `fold` with Python's own hmac, base64 and json.
+"""Makes the tokens of the examples and of the runs of `fold` with Python's own hmac, base64 and json.
 
-`sign_fold.py examples` prints the lines of examples/tokens.txt, `sign_fold.py guard` those of crates/sig_guard/stdin, and
-`sign_fold.py source` prints crates/signals/src/tests/tokens.rt. Nothing here comes from the program under test.
+`sign_fold.py examples` prints the lines of examples/tokens.txt, and `sign_fold.py guard` those of crates/sig_guard/stdin;
+tools/make_runs.py takes the others by their names. Nothing here comes from the program under test.
 """
 import sys
 
@@ -90,12 +90,8 @@ def main():
         sys.stdout.write("".join(line + "\n" for line in EXAMPLES))
     elif sys.argv[1:] == ["guard"]:
         sys.stdout.write("".join(line + "\n" for line in GUARD))
-    elif sys.argv[1:] == ["source"]:
-        print("//! Tokens by an independent signer (tools/sign_fold.py), each under its name.\n")
-        for name, made in TESTS:
-            print(f'pub const {name}: &str =\n    "{made}";\n')
     else:
-        sys.exit("usage: sign_fold.py examples|guard|source")
+        sys.exit("usage: sign_fold.py examples|guard")
 
 
 if __name__ == "__main__":

@@ -1,7 +1,8 @@
 ghost use Rattle.std.specs.Prelude.{◌≡◌, IfOk};
 
-use sig_json::{Bytes, Memory};
-use std::alloc::{AllocError, AllocFailed, Global};
+use sig_json::{Bytes, Memory, MemoryRefusal};
+use std::alloc::Global;
+use thiserror::Error;
 
 /// A line of a text, without the LF that ends it and one CR before that.
 #[derive(Debug, PartialEq, Eq, Drop)]
@@ -31,45 +32,25 @@ impl Line {
 }
 
 /// Why no line is given.
-#[derive(Clone, Copy, Debug, PartialEq, Eq, Hash)]
+#[derive(Clone, Copy, Debug, PartialEq, Eq, Hash, Error)]
 pub enum LineFault {
     /// The source failed, now or in an earlier call of this reader.
+    #[error("the input failed")]
     Failed,
     /// A further byte is wanted, and so many were taken: `LAST_NUMBER`.
+    #[error("{0} bytes were read, the most that are counted")]
     Endless(u64),
-    /// Want of memory, now or in an earlier call of this reader.
+    /// Out of memory, now or in an earlier call of this reader.
+    #[error("out of memory")]
     Memory,
 }
 
-impl From<Memory> for LineFault {
-    ghost use Rattle.std.specs.Prelude.{◌≡◌};
+impl<R: MemoryRefusal> From<R> for LineFault {
     ghost use Rattle.sig_outside.specs.declared.line.LineFault.TheVariants as faults;
 
     ghost from_gives = { λ _ e. e ≡ faults.Memory };
 
-    fn from(_error: Memory) -> LineFault {
-        LineFault::Memory
-    }
-}
-
-impl From<AllocError> for LineFault {
-    ghost use Rattle.std.specs.Prelude.{◌≡◌};
-    ghost use Rattle.sig_outside.specs.declared.line.LineFault.TheVariants as faults;
-
-    ghost from_gives = { λ _ e. e ≡ faults.Memory };
-
-    fn from(_error: AllocError) -> LineFault {
-        LineFault::Memory
-    }
-}
-
-impl<T: Drop> From<AllocFailed<T>> for LineFault {
-    ghost use Rattle.std.specs.Prelude.{◌≡◌};
-    ghost use Rattle.sig_outside.specs.declared.line.LineFault.TheVariants as faults;
-
-    ghost from_gives = { λ _ e. e ≡ faults.Memory };
-
-    fn from(_error: AllocFailed<T>) -> LineFault {
+    fn from(_refusal: R) -> LineFault {
         LineFault::Memory
     }
 }

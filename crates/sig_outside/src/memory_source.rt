@@ -52,6 +52,20 @@ impl MemSource {
             faults: 0,
         }
     }
+
+    /// What is left.
+    pub fn rest(&self) -> &[u8]
+        ensures { result.now ≡ self.now.left }
+    {
+        self.bytes.as_slice().split_at(self.at).1
+    }
+
+    /// How many calls it got.
+    pub fn calls(&self) -> u64
+        ensures { result ≡ self.now.calls }
+    {
+        self.calls
+    }
 }
 
 impl Source for MemSource {

@@ -3,6 +3,7 @@ ghost use Rattle.std.specs.Io.KnownBytes.{WriteAppends, Appends};
 ghost use Rattle.sig_outside.specs.Causes.{AppendsPrefix, Beside, HasCause, Raised, Stalls};
 
 use crate::Failed;
+use thiserror::Error;
 
 /// What takes bytes.
 ///
@@ -30,11 +31,13 @@ pub trait Sink {
 }
 
 /// Why not all bytes were put.
-#[derive(Clone, Copy, Debug, PartialEq, Eq, Hash)]
+#[derive(Clone, Copy, Debug, PartialEq, Eq, Hash, Error)]
 pub enum PutFault {
     /// The sink failed.
+    #[error("the output failed")]
     Failed,
     /// The sink took nothing of a piece that isn't empty.
+    #[error("the output takes nothing")]
     Stuck,
 }
 

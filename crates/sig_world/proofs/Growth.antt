@@ -1,6 +1,7 @@
 -- Facts, journal, messages and answers only grow.
 use Rattle.std.proofs.Common.{◌∙◌, ap, sym, ℕ, List, [], ◌∷◌, ◌++◌, Bool, true, false, Option, Some, None, if◌then◌else◌, refl, append_assoc, append-nil}
 use Rattle.std.specs.Prelude.{nat_le}
+use Rattle.std.specs.List.{slice_get}
 use Rattle.sig_json.specs.declared.limits.TheConstants.{LAST_NUMBER}
 use Rattle.sig_rxnode.specs.declared.heard.Heard.{Heard}
 use Rattle.sig_rxnode.specs.declared.heard.Heard.TheVariants.{Accepted, Seen, NotTaken}
@@ -9,7 +10,7 @@ use Rattle.sig_outbox.specs.declared.token.Token.{Token}
 use Rattle.sig_outbox.specs.declared.call.Call.{Call}
 use Rattle.sig_outbox.specs.Table.{over_top}
 use Rattle.sig_world.specs.Law.{IsFrontOf, GoesOn, OnlyGrows}
-use Rattle.sig_world.specs.World.{Ends, World, Reply, Event, Called, Delivered, Answered, Elapsed, at, called, delivered, answered, happens, run, may_come, settle_call, sum_in}
+use Rattle.sig_world.specs.World.{Ends, World, Reply, Event, Called, Delivered, Answered, Elapsed, called, delivered, answered, happens, run, may_come, settle_call, sum_in}
 
 -- ---- fronts
 
@@ -76,8 +77,8 @@ answered_grows ends world (Some r) = called_grows ends (settle_call r) world
 happens_grows : (ends : Ends) (world : World) (e : Event) → GoesOn world (happens ends world e)
 happens_grows ends world (Called call) =
     either (may_come world.replies call) world _ world (called_grows ends call world) (stays world)
-happens_grows ends world (Delivered place) = delivered_grows ends world (at place world.messages)
-happens_grows ends world (Answered place) = answered_grows ends world (at place world.replies)
+happens_grows ends world (Delivered place) = delivered_grows ends world (slice_get world.messages place)
+happens_grows ends world (Answered place) = answered_grows ends world (slice_get world.replies place)
 happens_grows ends world (Elapsed time) = either (nat_le time LAST_NUMBER) world _ world (record {
   facts = itself world.facts;
   journal = itself world.journal;

@@ -7,8 +7,8 @@ use Rattle.sig_outbox.specs.declared.token.Token.{Token}
 use Rattle.sig_outbox.specs.Table.{answer_of, over_top, publication_of}
 use Rattle.sig_world.specs.declared.script.ScriptLine.{ScriptLine}
 use Rattle.sig_world.specs.declared.script.ScriptLine.TheVariants as line
-use Rattle.sig_world.specs.declared.stop.Stop.{Stop}
-use Rattle.sig_world.specs.declared.stop.Stop.TheVariants.{Line, Full}
+use Rattle.sig_command.specs.declared.stop.Stop.{Stop}
+use Rattle.sig_command.specs.declared.stop.Stop.TheVariants.{Line, Full}
 use Rattle.sig_world.specs.Script.{script_line_of}
 use Rattle.sig_world.specs.World.{World, Reply, called, new_world, settle_call, sum_in}
 use Rattle.sig_world.specs.Replay.{Played, call_text, counted_at, create_call, played, played_answer, played_call, played_delivery, played_found, played_line, played_publication, poll_call, refused, replay_ends, script_stop, script_text, script_world, publish_call}

@@ -21,11 +21,11 @@ use Rattle.sig_outbox.specs.Sound.{is_proper_rules}
 use Rattle.sig_outbox.specs.Table.{Told, answer_of, change_of, over_top, prepared_of, told_by}
 use Rattle.sig_outbox.proofs.JoinLemmas.{joined}
 use Rattle.sig_world.specs.declared.replayer.Replayer.{Replayer}
-use Rattle.sig_world.specs.declared.stop.Stop.TheVariants.{Line, Full}
-use Rattle.sig_world.specs.declared.stop.TellFault.{TellFault}
-use Rattle.sig_world.specs.declared.stop.TellFault.TheVariants.{Stopped, Memory}
+use Rattle.sig_command.specs.declared.stop.Stop.TheVariants.{Line, Full}
+use Rattle.sig_command.specs.declared.stop.TellFault.{TellFault}
+use Rattle.sig_command.specs.declared.stop.TellFault.TheVariants.{Stopped, Memory}
 use Rattle.sig_world.specs.Script.{utf8_line}
-use Rattle.sig_world.specs.Telling.{StopsAt}
+use Rattle.sig_command.specs.Telling.{StopsAt}
 use Rattle.sig_world.specs.World.{World, called, handed_by, heard_of, new_world, sum_in}
 use Rattle.sig_world.specs.Replay.{call_text, heard_text, played, played_call, played_delivery, played_found, replay_ends, replay_key, replay_rules, replay_telling, replay_trust, script_stop, script_text, script_world, sum_after}
 use Rattle.sig_world.specs.Replaying.{Goes, GoesNot, IsAt, StandsAt}

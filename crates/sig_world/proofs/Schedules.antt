@@ -1,6 +1,7 @@
 -- What holds of the world holds after every schedule.
 use Rattle.std.proofs.Common.{◌≡◌, sym, subst, ℕ, zero, suc, List, [], ◌∷◌, map, Bool, true, false, Option, Some, None, if◌then◌else◌, refl, arith}
 use Rattle.std.specs.Prelude.{All, Contains, IfSome, IsUtf8, nat_le}
+use Rattle.std.specs.List.{slice_get}
 use Rattle.std.proofs.lemmas.Bool.{leb-true}
 use Rattle.std.proofs.lemmas.List.Elements.{All-contains, All-contains_itself, All-head, All-map, All-nil, All-tail, All-weaker}
 use Rattle.sig_json.specs.declared.limits.TheConstants.{LAST_NUMBER}
@@ -17,14 +18,14 @@ use Rattle.sig_outbox.specs.Sound.{IsProperCall}
 use Rattle.sig_outbox.specs.Table.{token_of}
 use Rattle.sig_outbox.proofs.KeptLemmas.{IsOurs, IsOurToken}
 use Rattle.sig_world.specs.Law.{AreProper, HoldsOnEverySchedule, IsLawful, IsProperEvent, is_acknowledged, is_journalled, tokens_in}
-use Rattle.sig_world.specs.World.{Ends, World, Reply, Event, Called, Delivered, Answered, Elapsed, at, answered, called, delivered, happens, is_taken, may_come, new_world, run, settle_call, sum_in}
+use Rattle.sig_world.specs.World.{Ends, World, Reply, Event, Called, Delivered, Answered, Elapsed, answered, called, delivered, happens, is_taken, may_come, new_world, run, settle_call, sum_in}
 use Rattle.sig_world.proofs.Calls.{Holds, called_holds}
 use Rattle.sig_world.proofs.Counted.{call_counted, message_ours, pair_ours, settle_counted}
 use Rattle.sig_world.proofs.Held.{IsHeard, claims_made, held_judging, image}
 
 -- ---- what stands at a place
 
-at_place : {X : Type 0} (P : X → Type 0) (place : ℕ) (xs : List X) (x : X) → All P xs → at place xs ≡ Some x → P x
+at_place : {X : Type 0} (P : X → Type 0) (place : ℕ) (xs : List X) (x : X) → All P xs → slice_get xs place ≡ Some x → P x
 at_place P place [] x all is = cc is
 at_place P zero (y ∷ ys) x all is = let same : y ≡ x = cc in subst P same (All-head P y ys all)
 at_place P (suc place) (y ∷ ys) x all is = at_place P place ys x (All-tail P y ys all) is
@@ -97,10 +98,10 @@ event_holds : (ends : Ends) (world : World) (e : Event) → AreProper ends → I
 event_holds ends world (Called call) proper fair holds =
     chosen (Holds ends) (may_come world.replies call) _ world (λ may. call_holds ends world call proper holds fair may) holds
 event_holds ends world (Delivered place) proper fair holds =
-    delivery_holds ends world (at place world.messages) proper holds
+    delivery_holds ends world (slice_get world.messages place) proper holds
     (λ m is. at_place (Contains (map token_of (tokens_in ends world))) place world.messages m holds.held.handed is)
 event_holds ends world (Answered place) proper fair holds =
-    answer_holds ends world (at place world.replies) proper holds
+    answer_holds ends world (slice_get world.replies place) proper holds
     (λ r is. at_place (IsHeard (tokens_in ends world) world.journal) place world.replies r holds.held.heard is)
 event_holds ends world (Elapsed time) proper fair holds =
     chosen (Holds ends) (nat_le time LAST_NUMBER) _ world (λ early. record {

@@ -1,9 +1,6 @@
 pub mod FirstForm
 pub mod World
 pub mod Law
-pub mod WholeLines
-pub mod Telling
-pub mod Progress
 pub mod Script
 pub mod Replay
 pub mod ReplayLaws

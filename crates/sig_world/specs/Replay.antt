@@ -1,5 +1,6 @@
 -- What a script prints: both ends run under its lines, one after another, over new stores at time 0.
 use Rattle.std.specs.Prelude.{ℕ, zero, suc, List, [], ◌∷◌, ◌++◌, ◌+◌, Option, Some, None, is_none, is_some, codes, decimal, length, unwrap_or, if◌then◌else◌}
+use Rattle.std.specs.List.{slice_get}
 use Rattle.sig_json.specs.declared.limits.TheConstants.{LAST_NUMBER}
 use Rattle.sig_jws.specs.declared.key.Key.{Key}
 use Rattle.sig_subject.specs.declared.plain.Plain.TheVariants as plain
@@ -30,11 +31,11 @@ use Rattle.sig_outbox.specs.Owed.{Sum, owed_count, sum_of}
 use Rattle.sig_outbox.specs.Table.{answer_of, over_top, publication_of}
 use Rattle.sig_world.specs.declared.script.ScriptLine.{ScriptLine}
 use Rattle.sig_world.specs.declared.script.ScriptLine.TheVariants as line
-use Rattle.sig_world.specs.declared.stop.Stop.{Stop}
-use Rattle.sig_world.specs.declared.stop.Stop.TheVariants as stop
+use Rattle.sig_command.specs.declared.stop.Stop.{Stop}
+use Rattle.sig_command.specs.declared.stop.Stop.TheVariants as stop
 use Rattle.sig_world.specs.Script.{script_line_of}
-use Rattle.sig_world.specs.Telling.{Telling}
-use Rattle.sig_world.specs.World.{Ends, World, Reply, new_world, at, called, delivered, sum_in, heard_of, settle_call}
+use Rattle.sig_command.specs.Telling.{Telling}
+use Rattle.sig_world.specs.World.{Ends, World, Reply, new_world, called, delivered, sum_in, heard_of, settle_call}
 
 -- ---- both ends
 
@@ -99,7 +100,7 @@ publish_call id name = call.Publish id (subject.Simple (simple.Plain (plain.Opaq
 -- what stands at a place that is counted from 1
 abbrev pub counted_at : {T : Type 0} → ℕ → List T → Option T
 counted_at zero xs = None
-counted_at (suc place) xs = at place xs
+counted_at (suc place) xs = slice_get xs place
 
 -- what a history comes to with one more fact, where there is one
 abbrev pub sum_after : Sum → Option Fact → Sum

@@ -1,7 +1,7 @@
 -- What holds of scripts, line by line.
 use Rattle.std.specs.Prelude.{◌≡◌, ℕ, List, [], ◌∷◌, ◌++◌, ◌+◌, Option, Some, None, is_none, refl, if◌then◌else◌}
 use Rattle.std.proofs.Common.{◌∙◌, ap, sym, append_assoc}
-use Rattle.sig_world.specs.declared.stop.Stop.{Stop}
+use Rattle.sig_command.specs.declared.stop.Stop.{Stop}
 use Rattle.sig_world.specs.World.{World, new_world}
 use Rattle.sig_world.specs.Replay.{played, script_stop, script_text, script_world}
 

@@ -1,7 +1,7 @@
 -- A transmitter and a receiver, the messages between them, and what a schedule makes of them.
 use Rattle.std.specs.Option.{option_to_list}
 use Rattle.std.specs.Prelude.{ℕ, zero, suc, List, [], ◌∷◌, ◌++◌, Bool, true, false, ◌&&◌, Option, Some, None, bytes_eq, nat_le, if◌then◌else◌}
-use Rattle.std.specs.List.{list_any, list_all}
+use Rattle.std.specs.List.{list_any, list_all, slice_get}
 use Rattle.sig_json.specs.declared.limits.TheConstants.{LAST_NUMBER}
 use Rattle.sig_rxnode.specs.declared.heard.Heard.{Heard}
 use Rattle.sig_rxnode.specs.declared.heard.Heard.TheVariants.{Accepted, Seen, NotTaken}
@@ -53,12 +53,6 @@ pub data Event : Type 0 where
   Delivered : ℕ → Event
   Answered : ℕ → Event
   Elapsed : ℕ → Event
-
--- what stands at a place
-abbrev pub at : {T : Type 0} → ℕ → List T → Option T
-at place [] = None
-at zero (x ∷ xs) = Some x
-at (suc place) (x ∷ xs) = at place xs
 
 -- the receiver has the token
 abbrev pub is_taken : Heard → Bool
@@ -163,8 +157,8 @@ at_time world time = record {
 -- what an event makes of the world; one that can't happen leaves it as it is
 abbrev pub happens : Ends → World → Event → World
 happens ends world (Called call) = if may_come world.replies call then called ends call world else world
-happens ends world (Delivered place) = delivered ends world (at place world.messages)
-happens ends world (Answered place) = answered ends world (at place world.replies)
+happens ends world (Delivered place) = delivered ends world (slice_get world.messages place)
+happens ends world (Answered place) = answered ends world (slice_get world.replies place)
 happens ends world (Elapsed time) = if nat_le time LAST_NUMBER then at_time world time else world
 
 -- what a schedule makes of it, event by event

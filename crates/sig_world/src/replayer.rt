@@ -15,9 +15,10 @@ use crate::reply::Reply;
 use crate::running::print_owed;
 use crate::script::{ScriptLine, script_line};
 use crate::settings::{STORE_ID, replay_rules, replay_trust};
-use crate::{ReplayEnd, Stop, TellFault, Teller, print_table};
 use sig_caep::{CaepEvent, CaepKind, Common};
+use sig_command::{LinesEnd, Stop, TellFault, Teller};
 use sig_event::Event;
+use sig_fold::print_table;
 use sig_json::limits::SCRIPT_LINE_BYTES;
 use sig_json::{Bytes, Items, Memory, Text};
 use sig_outbox::{
@@ -77,9 +78,9 @@ impl Teller for Replayer {
         }
     }
 
-    fn close<O: Sink>(&self, gathered: &mut Bytes, output: &mut O) -> ReplayEnd {
+    fn close<O: Sink>(&self, gathered: &mut Bytes, output: &mut O) -> LinesEnd {
         match print_table(self.alloc, &self.receiver, gathered, output) {
-            ReplayEnd::Done => print_owed(self.alloc, &self.outbox, output),
+            LinesEnd::Done => print_owed(self.alloc, &self.outbox, output),
             ending => ending,
         }
     }

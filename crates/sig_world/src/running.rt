@@ -1,11 +1,12 @@
 //! A script, from its first line to what is printed at the end.
 
-ghost use Rattle.std.specs.Prelude.{◌≡◌, ◌≤◌, ◌++◌, ◌+◌, IfSome, OnOk, drop};
+ghost use Rattle.std.specs.Prelude.{◌≡◌, ◌++◌, ◌+◌, IfSome, OnOk, drop};
 ghost use Rattle.sig_world.specs.Replay.{owed_text, owed_line, replay_telling};
-ghost use Rattle.sig_world.specs.Telling.{TableEnd, WhyEnded, WhyPut, Wrote};
+ghost use Rattle.sig_command.specs.Moment.{moment, output_state};
+ghost use Rattle.sig_command.specs.Telling.{PutSo, WhyEnded, WhyPut, Wrote};
 
 use crate::replayer::Replayer;
-use crate::{ReplayEnd, put_gathered, tell_all};
+use sig_command::{LinesEnd, put_gathered, tell_all};
 use sig_json::{Bytes, Memory, Text};
 use sig_outbox::Outbox;
 use sig_outside::{Sink, Source};
@@ -16,32 +17,30 @@ use std::alloc::Global;
 ///
 /// `Line` comes exactly where a line that is reached is refused, and names it; `Full` where a line needs a number above
 /// 2^62, or once 2^62 bytes were read; `Input` and `Output` by the faults of both.
-pub fn replay<I: Source, O: Sink>(alloc: Global, input: &mut I, output: &mut O) -> ReplayEnd
-    ensures cause { WhyEnded replay_telling (I.faults input.old) (I.faults input.new) (O.faults output.old) (O.faults output.new) (O.stalls output.old) (O.stalls output.new) result }
-    ensures text { IfSome (I.left input.old) (λ told. Wrote replay_telling told (I.left input.new) (O.written output.old) (O.written output.new) result) }
-    ensures later { O.faults output.old ≤ O.faults output.new }
-    ensures still { (result ≡ ReplayEnd.Output → ⊥) → O.stalls output.new ≡ O.stalls output.old }
+pub fn replay<I: Source, O: Sink>(alloc: Global, input: &mut I, output: &mut O) -> LinesEnd
+    ensures cause { WhyEnded replay_telling (moment (I.left input.old) (I.faults input.old) (O.written output.old) (O.faults output.old) (O.stalls output.old))
+        (moment (I.left input.new) (I.faults input.new) (O.written output.new) (O.faults output.new) (O.stalls output.new)) result }
+    ensures text { IfSome (I.left input.old) (λ told. Wrote replay_telling told (moment (I.left input.old) (I.faults input.old) (O.written output.old) (O.faults output.old) (O.stalls output.old))
+        (moment (I.left input.new) (I.faults input.new) (O.written output.new) (O.faults output.new) (O.stalls output.new)) result) }
 {
     match Replayer::new(alloc) {
         Ok(mut replayer) => tell_all(alloc, &mut replayer, input, output),
-        Err(Memory) => ReplayEnd::Memory,
+        Err(Memory) => LinesEnd::Memory,
     }
 }
 
 /// Prints what each stream owes. The ending is `Done`, `Memory` or `Output`.
-pub(crate) fn print_owed<O: Sink>(alloc: Global, outbox: &Outbox, output: &mut O) -> ReplayEnd
-    ensures text { TableEnd (owed_text outbox.now.sum outbox.now.sum.parts.streams) (O.written output.old) (O.written output.new) result }
-    ensures cause { WhyPut (O.faults output.old) (O.faults output.new) (O.stalls output.old) (O.stalls output.new) result }
-    ensures later { O.faults output.old ≤ O.faults output.new }
-    ensures still { (result ≡ ReplayEnd.Output → ⊥) → O.stalls output.new ≡ O.stalls output.old }
+pub(crate) fn print_owed<O: Sink>(alloc: Global, outbox: &Outbox, output: &mut O) -> LinesEnd
+    ensures text { PutSo (owed_text outbox.now.sum outbox.now.sum.parts.streams) (O.written output.old) (O.written output.new) result }
+    ensures cause { WhyPut (output_state (O.written output.old) (O.faults output.old) (O.stalls output.old)) (output_state (O.written output.new) (O.faults output.new) (O.stalls output.new)) result }
 {
     let mut text = Bytes::new(alloc);
     let Ok(()) = add_owed(alloc, outbox, &mut text) else {
-        return ReplayEnd::Memory;
+        return LinesEnd::Memory;
     };
     match put_gathered(output, &mut text) {
-        Ok(()) => ReplayEnd::Done,
-        Err(_) => ReplayEnd::Output,
+        Ok(()) => LinesEnd::Done,
+        Err(_) => LinesEnd::Output,
     }
 }
 

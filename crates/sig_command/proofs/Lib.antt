@@ -1,0 +1,5 @@
+pub mod CountLemmas
+pub mod WholeLines
+pub mod PutLemmas
+pub mod EndLemmas
+pub mod ProgressLemmas

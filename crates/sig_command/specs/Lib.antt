@@ -1,0 +1,4 @@
+pub mod Moment
+pub mod WholeLines
+pub mod Telling
+pub mod Progress

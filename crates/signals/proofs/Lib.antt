@@ -1,3 +1,0 @@
-pub mod CommandLemmas
-pub mod TellingLemmas
-pub mod EndLemmas

@@ -1,5 +1,0 @@
-use Rattle.signals.proofs.CommandLemmas.{of_others}
-use Rattle.signals.proofs.command.fold_words.Goals as goal
-
-pub returns-then-words-ne3 : goal.returns-then-words-ne3
-returns-then-words-ne3 c = of_others c.args.words.now c.if-words-ne3.true

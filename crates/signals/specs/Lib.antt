@@ -1,4 +1,0 @@
-pub mod Command
-pub mod Fold
-pub mod FoldLaws
-pub mod Ends
