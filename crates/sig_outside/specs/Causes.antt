@@ -37,6 +37,6 @@ Stalls before now zero [] = now ≡ before
 Stalls before now zero (b ∷ bytes) = Raised before now
 Stalls before now (suc n) bytes = now ≡ before
 
--- known bytes grow by a front of these
+-- known bytes grow by a prefix of these
 abbrev pub AppendsPrefix : Option (List ℕ) → Option (List ℕ) → List ℕ → Type 0
 AppendsPrefix old new bytes = (front : List ℕ) × (rest : List ℕ) × (bytes ≡ front ++ rest) × Appends old new front

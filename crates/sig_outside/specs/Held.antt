@@ -17,7 +17,7 @@ pub record Draws (old new : Holding) (left left' : Option (List ℕ)) : Type 0 w
   pub gave : Consumes left left' more
   pub taken : new.taken ≡ old.taken + length more
 
--- what a call took of any source stands behind what was kept
+-- what a call took of any source stands after what was kept
 pub record Grows (old new : Holding) (left left' : Option (List ℕ)) : Type 0 where
   pub draws : Draws old new left left'
   pub kept : new.kept ≡ old.kept ++ draws.more

@@ -12,7 +12,7 @@ abbrev pub number_once : ℕ → Result Line LineFault → ℕ
 number_once before (Ok line) = number_after before line
 number_once before (Err fault) = before
 
--- an open reader stays open but for the first failure of its source and want of memory
+-- an open reader stays open but for the first failure of its source and running out of memory
 abbrev pub mode_once : Result Line LineFault → Mode
 mode_once (Ok line) = Open
 mode_once (Err Failed) = Failing

@@ -40,13 +40,13 @@ pub record Within (old new : Holding) (left left' : Option (List ℕ)) : Type 0 
   pub draws : Draws old new left left'
   pub within : HasNoLf (old.kept ++ draws.more)
 
--- the same of each fault but want of memory
+-- the same of each fault but out of memory
 abbrev pub HaltsWithin : LineFault → Holding → Holding → Option (List ℕ) → Option (List ℕ) → Type 0
 HaltsWithin Failed old new left left' = Within old new left left'
 HaltsWithin (Endless n) old new left left' = Within old new left left'
 HaltsWithin Memory old new left left' = Unit {0}
 
--- the bytes begin with this line and its end, and rest follows: behind a LF, or at the end of the input
+-- the bytes begin with this line and its end, and rest follows: after an LF, or at the end of the input
 abbrev pub IsCut : List ℕ → List ℕ → List ℕ → Option (List ℕ) → Type 0
 IsCut bytes line rest left' =
     ((front : List ℕ) × (bytes ≡ front ++ 10 ∷ rest) × HasNoLf front × (line ≡ strip_carriage_return front))

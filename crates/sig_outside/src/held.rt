@@ -71,7 +71,7 @@ impl Held {
         self.start = 0;
     }
 
-    /// Takes one piece of the source behind what is kept, and answers how long it is: 0 at the end of the input.
+    /// Takes one piece of the source after what is kept, and answers how long it is: 0 at the end of the input.
     pub fn fill<S: Source>(&mut self, source: &mut S) -> Result<usize, LineFault>
         ensures piece { IfOk result (λ n. HasPiece n self.old self.new (S.left source.old) (S.left source.new)) }
         ensures kept { IfErr result (λ e. (self.new.kept ≡ self.old.kept) × (self.new.taken ≡ self.old.taken) × Keeps (S.left source.old) (S.left source.new)) }
@@ -93,7 +93,7 @@ impl Held {
     }
 }
 
-// Moves what stands from a place on to the front.
+// Moves what stands from a place on to the first place.
 fn drop_front(bytes: &mut Vec<u8>, start: usize)
     requires { start ≤ length bytes.old.items }
     ensures { bytes.new.items ≡ drop start bytes.old.items }
@@ -103,7 +103,7 @@ fn drop_front(bytes: &mut Vec<u8>, start: usize)
     bytes.truncate(rest);
 }
 
-// Takes one piece of at most so many bytes behind what stands.
+// Takes one piece of at most so many bytes after what stands.
 fn take_piece<S: Source>(
     bytes: &mut Vec<u8>,
     ask: usize,

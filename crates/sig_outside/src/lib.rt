@@ -4,7 +4,7 @@
 //! the object tells it, and how many calls failed. `put_all` puts bytes whole; `Lines` reads a source line by line:
 //!
 //! ```text
-//!     source --take, in large pieces--> | given | kept: a line LF a line LF the front of a line |
+//!     source --take, in large pieces--> | given | kept: a line LF a line LF part of a line   |
 //!                                               ^ start place; `next` gives the first line of what is kept
 //! ```
 //!

@@ -99,15 +99,15 @@ impl Sink for MemSink {
             return Err(Failed);
         }
         let room = if idles { 0 } else { self.piece };
-        let front = bytes.split_at(bytes.len().min(room)).0;
-        if self.bytes.add(front).is_err() {
+        let taken = bytes.split_at(bytes.len().min(room)).0;
+        if self.bytes.add(taken).is_err() {
             self.refused = self.refused.saturating_add(1);
             self.faults = self.faults.saturating_add(1);
             return Err(Failed);
         }
-        if front.is_empty() && !bytes.is_empty() {
+        if taken.is_empty() && !bytes.is_empty() {
             self.stalls = self.stalls.saturating_add(1);
         }
-        Ok(front.len())
+        Ok(taken.len())
     }
 }

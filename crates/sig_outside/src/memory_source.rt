@@ -96,7 +96,7 @@ impl Source for MemSource {
     }
 }
 
-// Copies the bytes from a place on to the front of the buffer: as many as fit, and at most so many.
+// Copies the bytes from a place on into the buffer, from its first place on: as many as fit, and at most so many.
 fn give(bytes: &[u8], at: usize, piece: usize, buf: &mut [u8]) -> usize
     requires within { at ≤ length bytes.now }
     requires some { 0 < piece }

@@ -21,7 +21,7 @@ pub enum Reach {
     Over,
 }
 
-/// The first line of what is kept and what the source gives, as the line behind the one of this number.
+/// The first line of what is kept and what the source gives, as the line after the one of this number.
 pub fn read_line<S: Source>(
     held: &mut Held,
     alloc: Global,
@@ -144,7 +144,7 @@ fn strip(bytes: &[u8]) -> &[u8]
     }
 }
 
-// The line of these bytes, behind the one of this number.
+// The line of these bytes, after the one of this number.
 fn line_of(alloc: Global, bytes: &[u8], room: usize, before: u64) -> Result<Line, Memory>
     requires { before ≤ LAST_NUMBER }
     ensures { IfOk result (λ line. IsLineOf room before bytes.now line) }

@@ -16,7 +16,7 @@ pub trait Source {
 
     ghost faults: { Self → ℕ };
 
-    /// Takes bytes into the front of the buffer, and answers how many: 0 into a buffer with room only at the end of the
+    /// Takes bytes into the buffer, from its first place on, and answers how many: 0 into a buffer with room only at the end of the
     /// input. The count of faults
     /// stays where a call doesn't fail. `Failed` raises it by one, and takes nothing.
     fn take(&mut self, buf: &mut [u8]) -> Result<usize, Failed>

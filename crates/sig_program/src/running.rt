@@ -39,7 +39,8 @@ pub fn start<I: Source, O: Sink>(
     ensures words { IfOk words (λ all. RanWith (map (λ word. string_bytes word) (drop 1 all.items))
         (moment (I.left input.old) (I.faults input.old) (O.written output.old) (O.faults output.old) (O.stalls output.old))
         (moment (I.left input.new) (I.faults input.new) (O.written output.new) (O.faults output.new) (O.stalls output.new)) result) }
-    ensures no_text { IfErr words (λ error. (error_kind error ≡ OutOfMemory → ⊥) → RanWith []
+    ensures unasked { IfOk words (λ all. spec.command_of (map (λ word. string_bytes word) (drop 1 all.items)) ≡ None → input.new ≡ input.old) }
+    ensures no_text { IfErr words (λ error. (error_kind error ≡ OutOfMemory → ⊥) → (input.new ≡ input.old) × RanWith []
         (moment (I.left input.old) (I.faults input.old) (O.written output.old) (O.faults output.old) (O.stalls output.old))
         (moment (I.left input.new) (I.faults input.new) (O.written output.new) (O.faults output.new) (O.stalls output.new)) result) }
     ensures memory { IfErr words (λ error. error_kind error ≡ OutOfMemory → (input.new ≡ input.old) × (e : Ending) × (result ≡ status_of e)

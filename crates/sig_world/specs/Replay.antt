@@ -129,7 +129,7 @@ messages_text number place (t ∷ more) =
     numbered number (codes "m" ++ decimal place ++ codes " " ++ token_name t.stream t.number)
     ++ messages_text number (place + 1) more
 
--- the transmitter's answer, behind so many messages
+-- the transmitter's answer, after so many messages
 abbrev pub call_text : ℕ → ℕ → Answer → List ℕ
 call_text number before (answer.Made conf) = numbered number (codes "made " ++ conf.stream)
 call_text number before (answer.Sets tokens more) =
@@ -149,7 +149,7 @@ heard_word Accepted = codes "accepted"
 heard_word Seen = codes "seen"
 heard_word (NotTaken code spot) = codes "refused " ++ code_text code ++ codes " " ++ spot_text spot
 
--- the receiver's answer, behind so many answers
+-- the receiver's answer, after so many answers
 abbrev pub heard_text : ℕ → ℕ → Heard → List ℕ
 heard_text number before heard = numbered number (heard_word heard ++ codes " a" ++ decimal (before + 1))
 
@@ -230,7 +230,7 @@ script_stop number world (l ∷ ls) =
     if is_none (played number world l).stop then script_stop (number + 1) (played number world l).world ls
     else (played number world l).stop
 
--- the world behind lines, or where they stop
+-- the world after lines, or where they stop
 abbrev pub script_world : ℕ → World → List (List ℕ) → World
 script_world number world [] = world
 script_world number world (l ∷ ls) =

@@ -11,7 +11,7 @@ use Rattle.sig_world.specs.FirstForm.{has_first_form, id_in}
 use Rattle.sig_world.specs.declared.script.ScriptLine.{ScriptLine}
 use Rattle.sig_world.specs.declared.script.ScriptLine.TheVariants.{Skipped, Create, Publish, Poll, Deliver, Answer}
 
--- what stands before the first space, and what stands behind it
+-- what stands before the first space, and what stands after it
 pub record Cut : Type 0 where
   pub word : List ℕ
   pub rest : List ℕ

@@ -29,7 +29,7 @@ fn fits_subject(payload: &Value) -> bool
         None => false,
         Some(subject) => {
             has_only(subject, &["format", "id"])
-                && says(subject, "format", "opaque")
+                && has_text(subject, "format", "opaque")
                 && is_filled(subject, "id")
         }
     }
@@ -88,7 +88,7 @@ fn is_among(member: &str, names: &[&str]) -> bool
 }
 
 // The member is this text.
-fn says(value: &Value, name: &str, wanted: &str) -> bool
+fn has_text(value: &Value, name: &str, wanted: &str) -> bool
     ensures { result ≡ tests.is_text wanted.now (text_member name.now (view value.now)) }
 {
     match text_of(value, name) {

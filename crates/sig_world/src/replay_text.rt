@@ -9,7 +9,7 @@ use sig_outbox::{Answer, Issued, Token};
 use sig_rxnode::Heard;
 use std::alloc::Global;
 
-/// Adds what the transmitter's answer prints, behind so many messages.
+/// Adds what the transmitter's answer prints, after so many messages.
 pub(crate) fn add_call(
     alloc: Global,
     text: &mut Bytes,
@@ -32,7 +32,7 @@ pub(crate) fn add_call(
     }
 }
 
-/// Adds what the receiver's answer prints, behind so many answers.
+/// Adds what the receiver's answer prints, after so many answers.
 pub(crate) fn add_heard(
     alloc: Global,
     text: &mut Bytes,

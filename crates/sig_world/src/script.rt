@@ -92,7 +92,7 @@ fn is_comment(text: &[u8]) -> bool
     }
 }
 
-// What stands before the first space, and what stands behind it.
+// What stands before the first space, and what stands after it.
 fn cut(text: &str) -> Option<(&str, &str)>
     ensures { option_map (λ parts. record { word = parts.0.now; rest = parts.1.now }) result ≡ spec.cut_at_space text.now }
 {
