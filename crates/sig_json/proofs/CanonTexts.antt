@@ -17,7 +17,7 @@ comma_utf8 : (later : Bool) → IsUtf8 (comma_if later)
 comma_utf8 true = IsUtf8-are_ascii _ refl
 comma_utf8 false = IsUtf8-are_ascii _ refl
 
--- a text behind one ASCII byte
+-- a text after one ASCII byte
 behind : (x : ℕ) (text : List ℕ) → IsUtf8 (x ∷ []) → IsUtf8 text → IsUtf8 (x ∷ text)
 behind x text one h = IsUtf8-append (x ∷ []) text one h
 

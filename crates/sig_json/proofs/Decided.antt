@@ -20,7 +20,7 @@ pub one_fails : {T F : Type 0} (o : Option F) (x : T) (f : F) → decided o x �
 one_fails None x f h = cc
 one_fails (Some g) x f h = cc
 
--- behind a part that gave a value the rest decides
+-- after a part that gave a value the rest decides
 pub rest_decides : {F : Type 0} (cs ds : List (Check F)) → first_failing cs ≡ None → first_failing (cs ++ ds) ≡ first_failing ds
 rest_decides cs ds h = first_failing-append cs ds ∙ ap (λ o. or_else o (first_failing ds)) h
 
@@ -42,6 +42,6 @@ behind {T = T} {U = U} {E = E} memory cs ds x a y r h told =
     let same = ap (λ o. decided o y) (rest_decides cs ds (none_fails (first_failing cs) x a h)) in
     subst (λ (s : Result U E). Answers memory r s) (sym same) told
 
--- behind a part that gave a value the rest decides, also of the value
+-- after a part that gave a value the rest decides, also of the value
 pub rest : {T U E : Type 0} (cs ds : List (Check E)) (x a : T) (y : U) → decided (first_failing cs) x ≡ Ok a → decided (first_failing (cs ++ ds)) y ≡ decided (first_failing ds) y
 rest cs ds x a y h = ap (λ o. decided o y) (rest_decides cs ds (none_fails (first_failing cs) x a h))

@@ -93,7 +93,7 @@ get_skips q k d ms other = by_order (slice_cmp nat_cmp q k) refl
     by_order Equal is = absurd (other (exact_bytes q k is))
     by_order Greater is = rw is refl
 
--- what is found behind a member is found with it
+-- what is found after a member is found with it
 pub get_later : (q k : List ℕ) (d e : Data) (ms : Members) → IsBelow k ms → get_member q ms ≡ Some e → get_member q (member k d ms) ≡ Some e
 get_later q k d e ms below found = by_order (slice_cmp nat_cmp q k) refl
   where

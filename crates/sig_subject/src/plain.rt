@@ -7,23 +7,23 @@ use std::alloc::Global;
 /// section 4). No text of a known format is empty.
 #[derive(Debug, PartialEq, Eq, Hash, Drop)]
 pub enum Plain {
-    /// `account`: a URI that begins with `acct:`.
+    /// `account`: a URI that begins with `acct:` (RFC 9493, section 3.2.1).
     Account { uri: Text },
-    /// `email`: an e-mail address.
+    /// `email`: an e-mail address (section 3.2.2).
     Email { email: Text },
-    /// `iss_sub`: an issuer and its name of the subject.
+    /// `iss_sub`: an issuer and its name of the subject (section 3.2.3).
     IssSub { iss: Text, sub: Text },
-    /// `opaque`: a name that only its maker understands.
+    /// `opaque`: a name that only its maker understands (section 3.2.4).
     Opaque { id: Text },
-    /// `phone_number`: a telephone number.
+    /// `phone_number`: a telephone number (section 3.2.5).
     Phone { phone_number: Text },
-    /// `did`: a URL that begins with `did:`.
+    /// `did`: a URL that begins with `did:` (section 3.2.6).
     Did { url: Text },
-    /// `uri`: any URI.
+    /// `uri`: any URI (section 3.2.7).
     Uri { uri: Text },
-    /// `jwt_id`: a token by its issuer and its identifier.
+    /// `jwt_id`: a token by its issuer and its identifier (Shared Signals Framework 1.0, section 4).
     JwtId { iss: Text, jti: Text },
-    /// `saml_assertion_id`: an assertion by its issuer and its identifier.
+    /// `saml_assertion_id`: an assertion by its issuer and its identifier (Shared Signals Framework 1.0, section 4).
     Saml { issuer: Text, assertion_id: Text },
     /// A format that is not known here: the whole object as canonical text.
     Unknown { canon: Text },
