@@ -7,7 +7,7 @@ python3 -B tools/sign_fold.py examples | cmp - examples/tokens.txt
 python3 -B tools/sign_fold.py guard | cmp - crates/sig_guard/stdin
 python3 -B tools/make_runs.py cases | cmp - crates/sig_runs/stdin
 python3 -B tools/make_runs.py answers | cmp - crates/sig_runs/stdout
-python3 -B tools/sign_tokens.py source | tr -d ' \n' | cmp - <(tr -d ' \n' <crates/sig_set/src/tests/tokens.rt)
+python3 -B tools/cases_expected.py check
 
 folder=$(mktemp -d)
 trap 'rm -rf "$folder"' EXIT

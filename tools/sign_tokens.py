@@ -1,8 +1,8 @@
 #!/usr/bin/env python3
-"""Makes the tokens of the judgement's tests with Python's own hmac, base64 and json.
+"""Makes tokens with Python's own hmac, base64 and json, for the cases of `tools/cases` and for tests.
 
-`sign_tokens.py table` prints each token with its name and what is expected of it, and `sign_tokens.py source` prints them
-as crates/sig_set/src/tests/tokens.rt. Nothing here comes from the program under test.
+`sign_tokens.py table` prints each token with its name and what is expected of it. Nothing here comes from the program
+under test.
 """
 import base64
 import hashlib
@@ -31,11 +31,15 @@ def as_it_stands(value):
     return json.dumps(value, separators=(",", ":"), ensure_ascii=False).encode()
 
 
+def mac_of(front, key=KEY):
+    return hmac.new(key, front.encode(), hashlib.sha256).digest()
+
+
 def signed(header, payload, key=KEY):
     header = header if isinstance(header, bytes) else text(header)
     payload = payload if isinstance(payload, bytes) else text(payload)
     front = part(header) + "." + part(payload)
-    return front + "." + part(hmac.new(key, front.encode(), hashlib.sha256).digest())
+    return front + "." + part(mac_of(front, key))
 
 
 def claims(**changes):
@@ -96,8 +100,27 @@ REVERSED = {
 
 GOOD = signed(HEADER, claims())
 FRONT = GOOD.rsplit(".", 1)[0]
-HEAD_MAC = part(hmac.new(KEY, FRONT.split(".")[0].encode(), hashlib.sha256).digest())
-SHORT_MAC = part(hmac.new(KEY, FRONT.encode(), hashlib.sha256).digest()[:31])
+HEAD_MAC = part(mac_of(FRONT.split(".")[0]))
+SHORT_MAC = part(mac_of(FRONT)[:31])
+
+SECOND_KEY = b"f" * 32
+
+# The checks of a token that is in compact form and has an object for its header and for its payload, in their order.
+CHECKS = "typ crit iss issuer alg kid mac aud jti iat exp sub sub_id events event".split()
+BAD_HEADER = {"typ": "JWT", "crit": ["x"], "alg": "none", "kid": 7}
+BAD_CLAIMS = {"iss": 7, "aud": ["https://other.example"], "jti": 7, "iat": -1, "exp": 1, "sub": "s", "sub_id": {}, "events": {}}
+
+
+def broken_from(first):
+    """A token of which this check fails, and each later one."""
+    broken = CHECKS[CHECKS.index(first) :]
+    made = claims(events={REVOKED: []})
+    if "issuer" in broken:
+        made["iss"] = "https://other.example"
+    made.update({name: value for name, value in BAD_CLAIMS.items() if name in broken})
+    bad = {name: value for name, value in BAD_HEADER.items() if name in broken}
+    return signed(dict(HEADER, **bad), made, SECOND_KEY if "mac" in broken else KEY)
+
 
 # Tokens for https://rp.example of https://idp.example, whose one key has no name: name, token, and what is expected by
 # the order of the checks, accepted or the code (RFC 8935, section 2.4) and the spot.
@@ -131,14 +154,14 @@ TABLE = [
     ("ISSUER_IS_NO_TEXT", signed(HEADER, claims(iss=[ISS])), "invalid_request iss"),
     ("OTHER_ISSUER", signed(HEADER, claims(iss="https://other.example")), "invalid_issuer iss"),
     ("LONGER_ISSUER", signed(HEADER, claims(iss=ISS + "/")), "invalid_issuer iss"),
-    ("OTHER_ISSUER_AND_KEY", signed(header(alg="none"), claims(iss="https://other.example"), b"f" * 32), "invalid_issuer iss"),
+    ("OTHER_ISSUER_AND_KEY", signed(header(alg="none"), claims(iss="https://other.example"), SECOND_KEY), "invalid_issuer iss"),
     ("OTHER_ALGORITHM", signed(header(alg="HS512"), claims()), "invalid_key alg"),
     ("ALGORITHM_NONE", signed(header(alg="none"), claims()), "invalid_key alg"),
     ("NO_ALGORITHM", signed(header(alg=None), claims()), "invalid_key alg"),
     ("KEY_NAME_IS_NO_TEXT", signed(header(kid=7), claims()), "invalid_key kid"),
     ("KEY_NAME_IS_NULL", signed(dict(HEADER, kid=None), claims()), "invalid_key kid"),
-    ("OTHER_KEY", signed(HEADER, claims(), b"f" * 32), "invalid_key mac"),
-    ("OTHER_KEY_AND_AUDIENCE", signed(HEADER, claims(aud="https://other.example"), b"f" * 32), "invalid_key mac"),
+    ("OTHER_KEY", signed(HEADER, claims(), SECOND_KEY), "invalid_key mac"),
+    ("OTHER_KEY_AND_AUDIENCE", signed(HEADER, claims(aud="https://other.example"), SECOND_KEY), "invalid_key mac"),
     ("MAC_OF_THE_HEADER_ALONE", FRONT + "." + HEAD_MAC, "invalid_key mac"),
     ("SHORT_MAC", FRONT + "." + SHORT_MAC, "invalid_key mac"),
     ("NO_AUDIENCE", signed(HEADER, without("aud")), "invalid_audience aud"),
@@ -284,56 +307,14 @@ EXAMPLES = [
 ]
 
 
-def first_audience(made):
-    return made["aud"] if isinstance(made["aud"], str) else made["aud"][0]
-
-
-def row(words):
-    """A row of a table in Rattle, on one line where it is short."""
-    line = ", ".join(words)
-    if len(line) <= 60:
-        return f"    ({line}),\n"
-    return "    (\n" + "".join(f"        {word},\n" for word in words) + "    ),\n"
-
-
-def quoted(word):
-    return '"' + word + '"'
-
-
-def table(name, width, rows):
-    kinds = ", ".join(["&str"] * width)
-    return f"pub const {name}: [({kinds}); {len(rows)}] = [\n" + "".join(map(row, rows)) + "];\n"
-
-
-def source():
-    examples = [(name, signed(HEADER, made), expected, made) for name, made, expected in EXAMPLES]
-    out = "//! Tokens by an independent signer (tools/sign_tokens.py), each under its name, and what is expected of each.\n\n"
-    for name, token in [entry[:2] for entry in TABLE + examples]:
-        out += f'pub const {name}: &str =\n    "{token}";\n\n'
-    accepted = [name for name, _, expected in TABLE if expected == "accepted"]
-    out += f"/// Tokens that are valid.\npub const ACCEPTED: [&str; {len(accepted)}] = [\n"
-    out += "".join(f"    {name},\n" for name in accepted) + "];\n\n"
-    out += "/// Tokens that are refused: the token, its code, its spot.\n"
-    refused = [(name, *map(quoted, expected.split())) for name, _, expected in TABLE if expected != "accepted"]
-    out += table("REFUSED", 3, refused) + "\n"
-    out += "/// Examples of the standards: the token, its issuer, its audience, its code and its spot, or none.\n"
-    rows = [
-        (name, quoted(made["iss"]), quoted(first_audience(made)), *map(quoted, (expected + " none").split()[:2]))
-        for name, _, expected, made in examples
-    ]
-    return out + table("EXAMPLES", 5, rows)
-
-
 def main():
     if sys.argv[1:] == ["table"]:
         for name, token, expected in TABLE:
             print(name, expected, token)
         for name, made, expected in EXAMPLES:
             print(name, expected, signed(HEADER, made))
-    elif sys.argv[1:] == ["source"]:
-        sys.stdout.write(source())
     else:
-        sys.exit("usage: sign_tokens.py table|source")
+        sys.exit("usage: sign_tokens.py table")
 
 
 if __name__ == "__main__":

@@ -1,0 +1,63 @@
+//! The words that a line may begin with.
+
+/// What a line asks for.
+#[derive(Clone, Copy, Debug, PartialEq, Eq)]
+pub enum Word {
+    /// The canonical text of a value.
+    Json,
+    /// The MAC of a message under a key.
+    Mac,
+    /// Whether a word spells a key.
+    Key,
+    /// The parts of a text in compact form.
+    Split,
+    /// A subject, written again.
+    Subject,
+    /// Whether two subjects are identical.
+    Identical,
+    /// Whether two subjects match.
+    Matches,
+    /// Whether the first of two subjects covers the second.
+    Covers,
+    /// An event's payload, written again.
+    Event,
+    /// Whom later lines trust.
+    Trust,
+    /// The judgement of a token.
+    Judge,
+    /// The claims of a token, without a judgement.
+    Claims,
+    /// The effect of a token's events.
+    Take,
+    /// A row of the session table.
+    Row,
+    /// What the session table says of a subject.
+    Verdict,
+    /// An empty session table.
+    Clear,
+}
+
+impl Word {
+    /// The word of this name. None exactly where no word has it.
+    pub fn named(name: &str) -> Option<Word> {
+        match name {
+            "json" => Some(Word::Json),
+            "mac" => Some(Word::Mac),
+            "key" => Some(Word::Key),
+            "split" => Some(Word::Split),
+            "subject" => Some(Word::Subject),
+            "identical" => Some(Word::Identical),
+            "matches" => Some(Word::Matches),
+            "covers" => Some(Word::Covers),
+            "event" => Some(Word::Event),
+            "trust" => Some(Word::Trust),
+            "judge" => Some(Word::Judge),
+            "claims" => Some(Word::Claims),
+            "take" => Some(Word::Take),
+            "row" => Some(Word::Row),
+            "verdict" => Some(Word::Verdict),
+            "clear" => Some(Word::Clear),
+            _ => None,
+        }
+    }
+}

@@ -1,0 +1,1 @@
+"""An independent model of what the lines of `sig_cases` are answered."""

@@ -1,0 +1,247 @@
+#!/usr/bin/env python3
+"""Answers the lines of `sig_cases` by the tables of the standards and of docs/FORMATS.md, and makes its stored run.
+
+`cases_expected.py answer < lines` prints the answers. `cases_expected.py write` makes crates/sig_cases/stdin and stdout of
+the files tools/cases/*.txt, and `cases_expected.py check` says whether they stand so.
+
+In these files a line that begins with `#` says what the next cases show; one that begins with `> ` is the answer to the
+case before it, given by a standard or worked out by hand; any other line is a case. `<%..%>` stands for the text of a
+Python expression over the names of `sign_tokens.py`, `word`, which spells bytes, and `b`, raw bytes. Each answer is
+computed here; where it isn't the one that stands by hand, nothing is made.
+
+Nothing here comes from the program under test.
+"""
+import pathlib
+import re
+import sys
+
+import sign_tokens
+from cases import subjects, table, tokens
+from cases.events import check_event
+from cases.values import BadCase, Fault, NotJson
+from cases.values import dump, has_fraction, key_of, mac, member, optional, read, split, word, word_bytes
+
+ROOT = pathlib.Path(__file__).resolve().parent.parent
+RUN = ROOT / "crates" / "sig_cases"
+PARTS = ["base", "subjects", "events", "tokens", "standards", "effects", "verdicts", "lines"]
+LINE_BYTES = 65536
+LAST_NUMBER = 2**62
+
+
+def yes_or_no(holds):
+    return "yes" if holds else "no"
+
+
+def read_case(data):
+    try:
+        return read(data)
+    except NotJson:
+        raise BadCase from None
+
+
+def subject_in(value):
+    if not subjects.is_subject(value):
+        raise BadCase
+    return value
+
+
+class Answers:
+    """What lines are answered: trust and the session table go from one line to the next."""
+
+    def __init__(self):
+        self.trust = {"audience": "", "issuers": []}
+        self.rows = []
+        self.words = {
+            b"json": self.json,
+            b"mac": self.mac,
+            b"key": self.key,
+            b"split": self.split,
+            b"subject": self.subject,
+            b"identical": lambda rest: self.related(rest, subjects.same),
+            b"matches": lambda rest: self.related(rest, subjects.matches),
+            b"covers": lambda rest: self.related(rest, subjects.covers),
+            b"event": self.event,
+            b"trust": self.set_trust,
+            b"judge": self.judge,
+            b"claims": self.claims,
+            b"take": self.take,
+            b"row": self.row,
+            b"verdict": self.verdict,
+            b"clear": self.clear,
+        }
+
+    def answer(self, line):
+        """The answer to a line, None where it is passed over."""
+        if len(line) > LINE_BYTES:
+            return "bad-case"
+        if line == b"" or line.startswith(b"#"):
+            return None
+        name, _, rest = line.partition(b" ")
+        try:
+            return self.words[name](rest) if name in self.words else "bad-case"
+        except BadCase:
+            return "bad-case"
+
+    def json(self, rest):
+        try:
+            value = read(rest)
+        except NotJson:
+            return "not-json"
+        return "fraction" if has_fraction(value) else "value " + dump(value)
+
+    def mac(self, rest):
+        words = rest.split(b" ")
+        if len(words) != 2:
+            raise BadCase
+        return word(mac(word_bytes(words[0]), word_bytes(words[1])))
+
+    def key(self, rest):
+        if b" " in rest:
+            raise BadCase
+        return yes_or_no(key_of(rest) is not None)
+
+    def split(self, rest):
+        try:
+            return " ".join(["ok"] + [word(part) for part in split(rest)])
+        except Fault as fault:
+            return fault.args[0]
+
+    def subject(self, rest):
+        try:
+            return "ok " + dump(subjects.check_subject(read(rest)))
+        except NotJson:
+            return "not-json"
+        except Fault as fault:
+            return fault.args[0]
+
+    def related(self, rest, relation):
+        pair = read_case(rest)
+        if not isinstance(pair, list) or len(pair) != 2:
+            raise BadCase
+        return yes_or_no(relation(subject_in(pair[0]), subject_in(pair[1])))
+
+    def event(self, rest):
+        case = read_case(rest)
+        uri = member(case, "uri", str)
+        if "payload" not in case:
+            raise BadCase
+        subject = subject_in(case.get("subject"))
+        try:
+            return "ok " + dump(check_event(uri, case["payload"], subject))
+        except Fault as fault:
+            return fault.args[0]
+
+    def set_trust(self, rest):
+        self.trust = tokens.read_trust(read_case(rest))
+        return "ok"
+
+    def judge(self, rest):
+        case = read_case(rest)
+        token = member(case, "token", str).encode()
+        named, principal = optional(case, "named", str), optional(case, "principal", str)
+        try:
+            return "valid " + tokens.judge(self.trust, principal, named, token)
+        except Fault as fault:
+            return " ".join(fault.args[0])
+
+    def claims(self, rest):
+        try:
+            return "ok " + tokens.claims_of(rest)
+        except Fault as fault:
+            return "bad " + fault.args[0][1]
+
+    def take(self, rest):
+        case = read_case(rest)
+        if not isinstance(case, dict):
+            raise BadCase
+        try:
+            table.take(self.rows, case.get("sub_id"), tokens.check_happened(case))
+        except Fault as fault:
+            return "bad " + fault.args[0][1]
+        return f"rows {len(self.rows)}"
+
+    def row(self, rest):
+        if not re.fullmatch(rb"[1-9][0-9]*", rest) or int(rest) > LAST_NUMBER:
+            raise BadCase
+        place = int(rest)
+        return table.row_text(place, self.rows[place - 1]) if place <= len(self.rows) else "none"
+
+    def verdict(self, rest):
+        return dump(table.verdict(self.rows, subject_in(read_case(rest))))
+
+    def clear(self, rest):
+        if rest != b"":
+            raise BadCase
+        self.rows = []
+        return "ok"
+
+
+def lines_of(data):
+    """Lines end with LF, and one CR before it goes; the last may lack its LF."""
+    lines = data.split(b"\n")
+    last = lines.pop()
+    return [line[:-1] if line.endswith(b"\r") else line for line in lines] + ([last] if last else [])
+
+
+def answer_all(data):
+    answers, out = Answers(), []
+    for number, line in enumerate(lines_of(data), 1):
+        answer = answers.answer(line)
+        if answer is not None:
+            out.append(f"{number} {answer}")
+    return out
+
+
+def names():
+    known = {name: value for name, value in vars(sign_tokens).items() if not name.startswith("_")}
+    known.update({name: token for name, token, _ in sign_tokens.TABLE})
+    known.update({name: sign_tokens.signed(sign_tokens.HEADER, made) for name, made, _ in sign_tokens.EXAMPLES})
+    return dict(known, word=word, dump=dump)
+
+
+def spelled(line, known):
+    """The bytes of a line of a part, with its expressions worked out."""
+    pieces = re.split(rb"<%(.*?)%>", line)
+    for place in range(1, len(pieces), 2):
+        value = eval(pieces[place].decode(), known)  # the expressions are this repository's own
+        pieces[place] = value if isinstance(value, bytes) else str(value).encode()
+    return b"".join(pieces)
+
+
+def made():
+    """The input, its answers, and where an answer isn't the one that stands by hand."""
+    known, lines, by_hand = names(), [], {}
+    for part in PARTS:
+        for line in (ROOT / "tools" / "cases" / (part + ".txt")).read_bytes().splitlines():
+            if line.startswith(b"> "):
+                by_hand[len(lines)] = spelled(line[2:], known).decode()
+            else:
+                lines.append(line if line.startswith(b"#") else spelled(line, known))
+    data = b"\n".join(lines)
+    answers = answer_all(data)
+    told = dict(answer.split(" ", 1) for answer in answers)
+    wrong = [(number, want, told.get(str(number))) for number, want in by_hand.items() if told.get(str(number)) != want]
+    return data, "".join(answer + "\n" for answer in answers).encode(), wrong
+
+
+def main():
+    if sys.argv[1:] == ["answer"]:
+        for answer in answer_all(sys.stdin.buffer.read()):
+            print(answer)
+        return
+    if sys.argv[1:] not in (["write"], ["check"]):
+        sys.exit("usage: cases_expected.py answer|write|check")
+    data, answers, wrong = made()
+    for number, want, told in wrong:
+        print(f"line {number}: by hand {want}, computed {told}", file=sys.stderr)
+    if wrong:
+        sys.exit(1)
+    if sys.argv[1] == "write":
+        (RUN / "stdin").write_bytes(data)
+        (RUN / "stdout").write_bytes(answers)
+    elif (RUN / "stdin").read_bytes() != data or (RUN / "stdout").read_bytes() != answers:
+        sys.exit("the stored run isn't the one of tools/cases")
+
+
+if __name__ == "__main__":
+    main()
