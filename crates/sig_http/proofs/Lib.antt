@@ -2,6 +2,7 @@ pub mod AppendLemmas
 pub mod BodyLemmas
 pub mod ChunkLemmas
 pub mod HeadLemmas
+pub mod LawLemmas
 pub mod OutcomeLemmas
 pub mod PieceLemmas
 pub mod ReadingLemmas

@@ -5,6 +5,7 @@ pub mod Faults
 pub mod Fields
 pub mod Framing
 pub mod Heads
+pub mod Laws
 pub mod Message
 pub mod Pieces
 pub mod Query

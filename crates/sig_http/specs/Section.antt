@@ -1,5 +1,5 @@
 -- The head section of a message: its bytes up to and with the first empty line after a line that isn't empty (RFC 9112, section 2.1). A line ends with LF, and it is empty where nothing or one CR stands before that.
-use Rattle.std.specs.Prelude.{◌≡◌, ◌≤◌, ℕ, ◌+◌, ◌==◌, nat_lt, nat_le, List, [], ◌∷◌, if◌then◌else◌}
+use Rattle.std.specs.Prelude.{◌≡◌, ◌≤◌, ◌<◌, ℕ, ◌+◌, ◌==◌, nat_lt, nat_le, List, [], ◌∷◌, if◌then◌else◌}
 use Rattle.sig_json.specs.declared.limits.TheConstants.{HEAD_BYTES, HEADER_FIELDS}
 use Rattle.sig_http.specs.declared.section.Begun.{Begun}
 use Rattle.sig_http.specs.declared.section.Begun.TheVariants.{Nothing, Return, Filled}
@@ -56,8 +56,8 @@ abbrev pub section_from : Scan → List ℕ → Section
 section_from s [] = Open s
 section_from s (b ∷ bytes) = elim (after_byte s b) [ Open next ↦ section_from next bytes | Ended n ↦ Ended n | Long ↦ Long ]
 
--- a section that hasn't ended has as many bytes as came, and no more than may come; one that ended has no more than came
+-- a section that hasn't ended has as many bytes as came, and no more than may come; one that ended has more than before, and no more than came
 abbrev pub Counts : Scan → ℕ → Section → Type 0
 Counts s n (Open next) = (next.bytes ≡ s.bytes + n) × (next.bytes ≤ HEAD_BYTES)
-Counts s n (Ended count) = count ≤ s.bytes + n
+Counts s n (Ended count) = (s.bytes < count) × (count ≤ s.bytes + n)
 Counts s n Long = Unit {0}

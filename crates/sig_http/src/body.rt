@@ -1,5 +1,6 @@
-ghost use Rattle.std.specs.Prelude.{◌≡◌, ◌≤◌, ℕ, IfErr, IfOk, OnOk};
+ghost use Rattle.std.specs.Prelude.{◌≡◌, ◌≤◌, ℕ, length, max, IfErr, IfOk, OnOk};
 ghost use Rattle.sig_json.specs.declared.limits.TheConstants.{RESPONSE_BODY_BYTES};
+ghost use Rattle.sig_http.specs.declared.limits.TheConstants.{PIECE_BYTES};
 ghost use Rattle.sig_http.specs.Faults.{Tallies};
 ghost use Rattle.sig_http.specs.Bodies.{EndsBody, IsWithin, StopsBody};
 ghost use Rattle.sig_http.specs.declared.framing.Framing.TheVariants as framings;
@@ -29,6 +30,7 @@ pub fn read_body<S: Source>(
     requires limit { limit ≤ RESPONSE_BODY_BYTES }
     requires within { IsWithin limit framing }
     ensures body { IfOk result (λ body. EndsBody limit framing held.items body (S.left source.old) (S.left source.new)) }
+    ensures bound { IfOk result (λ body. length body.rest.items ≤ max (length held.items) PIECE_BYTES) }
     ensures refused { IfErr result (λ fault. StopsBody limit framing held.items fault (S.left source.old) (S.left source.new)) }
     ensures tally { IfErr result (λ fault. Tallies fault (S.faults source.old) (S.faults source.new)) }
     ensures steady { OnOk result (S.faults source.new ≡ S.faults source.old) }
@@ -45,6 +47,7 @@ pub fn read_body<S: Source>(
 fn read_length<S: Source>(source: &mut S, count: usize, held: Vec<u8>) -> Result<Body, HttpFault>
     requires { count ≤ RESPONSE_BODY_BYTES }
     ensures body { IfOk result (λ body. (limit : ℕ) → EndsBody limit (framings.Length count) held.items body (S.left source.old) (S.left source.new)) }
+    ensures bound { IfOk result (λ body. length body.rest.items ≤ max (length held.items) PIECE_BYTES) }
     ensures refused { IfErr result (λ fault. (limit : ℕ) → StopsBody limit (framings.Length count) held.items fault (S.left source.old) (S.left source.new)) }
     ensures tally { IfErr result (λ fault. Tallies fault (S.faults source.old) (S.faults source.new)) }
     ensures steady { OnOk result (S.faults source.new ≡ S.faults source.old) }
@@ -68,6 +71,7 @@ fn read_chunked<S: Source>(
     held: Vec<u8>,
 ) -> Result<Body, HttpFault>
     ensures body { IfOk result (λ body. EndsBody limit framings.Chunks held.items body (S.left source.old) (S.left source.new)) }
+    ensures bound { IfOk result (λ body. length body.rest.items ≤ max (length held.items) PIECE_BYTES) }
     ensures refused { IfErr result (λ fault. StopsBody limit framings.Chunks held.items fault (S.left source.old) (S.left source.new)) }
     ensures tally { IfErr result (λ fault. Tallies fault (S.faults source.old) (S.faults source.new)) }
     ensures steady { OnOk result (S.faults source.new ≡ S.faults source.old) }
@@ -101,6 +105,7 @@ fn read_to_end<S: Source>(
 ) -> Result<Body, HttpFault>
     requires { limit ≤ RESPONSE_BODY_BYTES }
     ensures body { IfOk result (λ body. EndsBody limit framings.End held.items body (S.left source.old) (S.left source.new)) }
+    ensures bound { IfOk result (λ body. length body.rest.items ≤ max (length held.items) PIECE_BYTES) }
     ensures refused { IfErr result (λ fault. StopsBody limit framings.End held.items fault (S.left source.old) (S.left source.new)) }
     ensures tally { IfErr result (λ fault. Tallies fault (S.faults source.old) (S.faults source.new)) }
     ensures steady { OnOk result (S.faults source.new ≡ S.faults source.old) }

@@ -1,36 +1,49 @@
 use sig_json::MemoryRefusal;
+use thiserror::Error;
 
 /// Why no message is read.
-#[derive(Clone, Copy, Debug, PartialEq, Eq, Hash)]
+#[derive(Clone, Copy, Debug, PartialEq, Eq, Hash, Error)]
 pub enum HttpFault {
     /// The head section is no head of HTTP/1.0 or HTTP/1.1 of at most `HEADER_FIELDS` fields (RFC 9112, sections 2 to 5).
+    #[error("the head is no HTTP head")]
     Head,
     /// The head section has more than `HEAD_BYTES` bytes, or more lines than those fields need.
+    #[error("the head is too long")]
     HeadLong,
     /// How the body ends isn't said, or is said twice (RFC 9112, section 6.3), or a chunk is malformed (section 7.1).
+    #[error("the body's end isn't said")]
     Length,
     /// The body has more than `REQUEST_BODY_BYTES` or `RESPONSE_BODY_BYTES` bytes.
+    #[error("the body is too long")]
     BodyLong,
     /// The body of a request has a coding other than `identity` (RFC 9110, section 8.4).
+    #[error("the body has a coding")]
     Coding,
     /// A request wants `expect` to be met (RFC 9110, section 10.1.1).
+    #[error("the request has an expectation")]
     Expect,
     /// The source ended within a message.
+    #[error("the message is cut")]
     Cut,
     /// The source failed.
+    #[error("the source failed")]
     Link,
     /// Out of memory.
+    #[error("out of memory")]
     Memory,
 }
 
 /// Why a message isn't written whole.
-#[derive(Clone, Copy, Debug, PartialEq, Eq, Hash)]
+#[derive(Clone, Copy, Debug, PartialEq, Eq, Hash, Error)]
 pub enum SendFault {
     /// The sink failed.
+    #[error("the sink failed")]
     Link,
     /// The sink took nothing of a piece that isn't empty.
+    #[error("the sink took nothing")]
     Stuck,
     /// Out of memory. Nothing is written.
+    #[error("out of memory")]
     Memory,
 }
 

@@ -22,6 +22,7 @@ mod fields;
 mod framing;
 mod head;
 mod kept;
+pub mod laws;
 pub mod limits;
 mod message;
 mod piece;
@@ -38,3 +39,6 @@ pub use message::{Got, Header, Request, Response};
 pub use query::query_value;
 pub use reading::{read_request, read_response};
 pub use writing::{write_request, write_response};
+
+#[cfg(test)]
+mod tests;

@@ -1,5 +1,6 @@
-ghost use Rattle.std.specs.Prelude.{◌≡◌, ◌≤◌, ◌++◌, IfErr, IfOk, IfSome, IsErrOf, OnOk};
+ghost use Rattle.std.specs.Prelude.{◌≡◌, ◌≤◌, ◌+◌, ◌++◌, length, max, IfErr, IfOk, IfSome, IsErrOf, OnOk};
 ghost use Rattle.sig_outside.specs.Causes.{Raised};
+ghost use Rattle.sig_http.specs.declared.limits.TheConstants.{PIECE_BYTES};
 ghost use Rattle.sig_http.specs.Bodies.{StopsSection, TakesSection};
 ghost use Rattle.sig_http.specs.Faults.{Tallies};
 ghost use Rattle.sig_http.specs.Pieces.{Draws};
@@ -28,6 +29,9 @@ pub fn read_request<S: Source>(
 ) -> Result<Got, HttpFault>
     // A request that is answered is the one that the bytes which were kept and left decide, however they are cut.
     ensures found { IfOk result (λ got. IfSome (S.left source.old) (λ left. Reads (kept.old ++ left) got kept.new (S.left source.new))) }
+
+    // It takes no more than a piece beyond the message.
+    ensures bound { OnOk result (length kept.new ≤ max (length kept.old) PIECE_BYTES) }
 
     // A refusal is the one that these bytes decide.
     ensures refused { IfErr result (λ fault. IfSome (S.left source.old) (λ left. Refuses (kept.old ++ left) fault)) }
@@ -60,6 +64,9 @@ pub fn read_response<S: Source>(
     // The response is the one that the bytes which were kept and left decide, however they are cut.
     ensures found { IfOk result (λ response. IfSome (S.left source.old) (λ left. ReadsResponseOf (kept.old ++ left) response kept.new (S.left source.new))) }
 
+    // It takes no more than a piece beyond the message.
+    ensures bound { OnOk result (length kept.new ≤ max (length kept.old) PIECE_BYTES) }
+
     // A refusal is the one that these bytes decide.
     ensures refused { IfErr result (λ fault. IfSome (S.left source.old) (λ left. RefusesResponse (kept.old ++ left) fault)) }
     ensures link { IsErrOf result HttpFault.Link → Raised (S.faults source.old) (S.faults source.new) }
@@ -83,6 +90,7 @@ pub fn read_response<S: Source>(
 fn take_section<S: Source>(held: &mut Vec<u8>, source: &mut S) -> Result<Option<usize>, HttpFault>
     ensures draws { Draws held.old.items held.new.items (S.left source.old) (S.left source.new) }
     ensures taken { IfOk result (λ taken. TakesSection taken held.new.items (S.left source.new)) }
+    ensures bound { IfOk result (λ taken. IfSome taken (λ count. length held.new.items ≤ count + max (length held.old.items) PIECE_BYTES)) }
     ensures refused { IfErr result (λ fault. StopsSection fault held.new.items (S.left source.new)) }
     ensures tally { IfErr result (λ fault. Tallies fault (S.faults source.old) (S.faults source.new)) }
     ensures steady { OnOk result (S.faults source.new ≡ S.faults source.old) }

@@ -33,6 +33,7 @@ pieces-preserved g c =
       chunking = chunking_on c.args.limit c.args.held.items c.pieces.phase c.in-Open.next c.pieces.content.items c.read_chunks.new.content.items c.pieces.held.items c.take_piece.new.bytes.items _ _ _
           before.chunking (ap (chunks_from c.args.limit c.pieces.phase c.pieces.content.items) (sym c.as_slice.ensures.value) ∙ told)
           (draws_from _ _ _ _ _ c.clear.ensures.items c.in_ok-take_piece.ensures.draws);
+      few = omega (arith, c.in_ok-take_piece.ensures.piece.count, c.in_ok-take_piece.ensures.piece.bound, ap length c.clear.ensures.items);
       beside = c.in_ok-take_piece.ensures.beside ∙ before.beside;
       steady = c.in_ok-take_piece.ensures.steady ∙ before.steady;
     }

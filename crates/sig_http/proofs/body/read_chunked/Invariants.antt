@@ -1,4 +1,5 @@
-use Rattle.std.proofs.Common.{◌≡◌, ◌-◌, ◌+◌, length}
+use Rattle.std.proofs.Common.{◌≡◌, ◌≤◌, ◌-◌, ◌+◌, length, max}
+use Rattle.sig_http.specs.declared.limits.TheConstants.{PIECE_BYTES}
 use Rattle.sig_http.specs.Chunks.{weight}
 use Rattle.sig_http.proofs.BodyLemmas.{Chunking}
 use Rattle.sig_http.proofs.body.read_chunked.Given as goal
@@ -6,6 +7,7 @@ use Rattle.sig_http.proofs.body.read_chunked.Given as goal
 abbrev pub invariant-pieces : goal.invariant-pieces
 invariant-pieces g l = record {
   chunking : Chunking l.limit l.fn.held.items l.phase l.content.items l.held.items (g.S.Source.left l.fn.source) (g.S.Source.left l.source);
+  few : length l.held.items ≤ max (length l.fn.held.items) PIECE_BYTES;
   beside : g.S.Source.beside l.source ≡ g.S.Source.beside l.fn.source;
   steady : g.S.Source.faults l.source ≡ g.S.Source.faults l.fn.source;
 }

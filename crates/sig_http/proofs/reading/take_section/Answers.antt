@@ -22,6 +22,7 @@ pieces-preserved g c =
           ∙ ap (section_from next) (sym (ap (drop c.len-judged.result) draws.stands ∙ drop_at now draws.more c.len-judged.result whole));
       counted = omega (arith, c.in-Open.ensures.counted.0, c.split_at.ensures.back_len, c.as_slice.ensures.len, before.counted, before.judged);
       judged = omega (arith, c.in_ok-take_piece.ensures.piece.count);
+      few = omega (arith, c.in_ok-take_piece.ensures.piece.count, c.in_ok-take_piece.ensures.piece.bound);
       within = c.in-Open.ensures.counted.1;
       beside = c.in_ok-take_piece.ensures.beside ∙ before.beside;
       steady = c.in_ok-take_piece.ensures.steady ∙ before.steady;

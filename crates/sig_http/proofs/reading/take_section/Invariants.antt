@@ -1,5 +1,6 @@
-use Rattle.std.proofs.Common.{◌≡◌, ◌≤◌, ◌-◌, ◌+◌, length, drop}
+use Rattle.std.proofs.Common.{◌≡◌, ◌≤◌, ◌-◌, ◌+◌, length, drop, max}
 use Rattle.sig_json.specs.declared.limits.TheConstants.{HEAD_BYTES}
+use Rattle.sig_http.specs.declared.limits.TheConstants.{PIECE_BYTES}
 use Rattle.sig_http.specs.Pieces.{Draws}
 use Rattle.sig_http.specs.Section.{start, section_from}
 use Rattle.sig_http.proofs.reading.take_section.Given as goal
@@ -10,6 +11,7 @@ invariant-pieces g l = record {
   told : section_from start l.held.items ≡ section_from l.scan (drop l.judged l.held.items);
   counted : l.scan.bytes ≡ l.judged;
   judged : l.judged ≤ length l.held.items;
+  few : length l.held.items ≤ l.judged + max (length l.fn.held.items) PIECE_BYTES;
   within : l.scan.bytes ≤ HEAD_BYTES;
   beside : g.S.Source.beside l.source ≡ g.S.Source.beside l.fn.source;
   steady : g.S.Source.faults l.source ≡ g.S.Source.faults l.fn.source;
