@@ -6,9 +6,6 @@ ghost use Rattle.serde_json.specs.Written.{compact_text, has_float};
 ghost use Rattle.sig_json.specs.Canon.{without_fraction};
 ghost use Rattle.sig_json.specs.Json.{json_of};
 
-#[cfg(test)]
-mod tests;
-
 use crate::{Memory, Text};
 use serde_json::Value;
 use std::alloc::Global;
