@@ -1,6 +1,6 @@
 ghost use Rattle.std.specs.Prelude.{◌≡◌, ◌↔◌, ◌⊎◌, ◌+◌, ◌<◌, ◌≤◌, ℕ, List, length, true, false, IsErrOf, IsTrue, IfOk, OnOk};
 ghost use Rattle.sig_json.specs.declared.limits.TheConstants.{LAST_NUMBER};
-ghost use Rattle.sig_outside.specs.Causes.{Rose};
+ghost use Rattle.sig_outside.specs.Causes.{Raised};
 ghost use Rattle.sig_outside.specs.Disk.{LeavesOnly, StopsAfter};
 ghost use Rattle.sig_journal.specs.Added.{RestsWith};
 ghost use Rattle.sig_journal.specs.OnlyRead.{OnlyRead};
@@ -71,7 +71,8 @@ impl<D: Disk> Journal<D> {
             (D.stop self.old.written) (D.stop self.new.written) (D.short self.new.written) result }
 
         ensures other { (self.new.other ≡ self.old.other) × (self.new.in_b ≡ self.old.in_b) × (self.new.kind ≡ self.old.kind) × (D.told self.new.written ≡ D.told self.old.written) }
-        ensures store { IsErrOf result AppendFault.Store → Rose (D.faults self.old.written) (D.faults self.new.written) × (self.new.broken ≡ true) }
+        ensures store { IsErrOf result AppendFault.Store → Raised (D.faults self.old.written) (D.faults self.new.written) × (self.new.broken ≡ true) }
+        ensures steady { OnOk result (D.faults self.new.written ≡ D.faults self.old.written) }
         ensures later { D.faults self.old.written ≤ D.faults self.new.written }
         ensures full { (n : ℕ) → IsErrOf result (AppendFault.Full n) ↔ ((n ≡ self.old.end + 5 + length framed.now) × (LAST_NUMBER < n)) }
         ensures same { (n : ℕ) → IsErrOf result (AppendFault.Full n) → self.new ≡ self.old }

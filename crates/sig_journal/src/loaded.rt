@@ -51,6 +51,8 @@ pub fn load<D: Disk>(alloc: Global, a: D, b: D, kind: Kind) -> Result<Loaded<D>,
         (λ r. OnlyRead D.told D.seen D.may_leave D.moment D.left_since D.faults a r.a × OnlyRead D.told D.seen D.may_leave D.moment D.left_since D.faults b r.b) }
 
     ensures store { IfErr result (λ r. r.fault ≡ Store → Rose (D.faults a) (D.faults r.a) ⊎ Rose (D.faults b) (D.faults r.b)) }
+    ensures steady { IfOk result (λ l. (D.faults (pick l.journal.in_b l.journal.written l.journal.other) ≡ D.faults a) × (D.faults (pick l.journal.in_b l.journal.other l.journal.written) ≡ D.faults b)) }
+    ensures steady_err { IfErr result (λ r. (r.fault ≡ Store → ⊥) → (D.faults r.a ≡ D.faults a) × (D.faults r.b ≡ D.faults b)) }
 {
     let mut a = a;
     let mut b = b;

@@ -28,6 +28,7 @@ fn file_in_force<D: Disk>(a: &mut D, b: &mut D) -> Result<bool, LoadFault>
     ensures reads_a { OnlyRead D.told D.seen D.may_leave D.moment D.left_since D.faults a.old a.new }
     ensures reads_b { OnlyRead D.told D.seen D.may_leave D.moment D.left_since D.faults b.old b.new }
     ensures store { IsErrOf result LoadFault.Store → Rose (D.faults a.old) (D.faults a.new) ⊎ Rose (D.faults b.old) (D.faults b.new) }
+    ensures steady { (IsErrOf result LoadFault.Store → ⊥) → (D.faults a.new ≡ D.faults a.old) × (D.faults b.new ≡ D.faults b.old) }
 {
     let Ok(gate_a) = settled_gate(a) else {
         return Err(LoadFault::Store);
@@ -55,6 +56,7 @@ fn read_file<D: Disk>(
     ensures told { IsTrue (D.told file.old) → Reads (told_in in_b (content_of kind (D.seen file.old))) (result_map found_view result) }
     ensures reads { OnlyRead D.told D.seen D.may_leave D.moment D.left_since D.faults file.old file.new }
     ensures store { IsErrOf result LoadFault.Store → Rose (D.faults file.old) (D.faults file.new) }
+    ensures steady { (IsErrOf result LoadFault.Store → ⊥) → D.faults file.new ≡ D.faults file.old }
     ensures ends { IfOk result (λ found. HasPlaces found) }
 {
     let bytes = read_all(alloc, file)?;
@@ -76,6 +78,7 @@ pub fn read_store<D: Disk>(
     ensures reads_a { OnlyRead D.told D.seen D.may_leave D.moment D.left_since D.faults a.old a.new }
     ensures reads_b { OnlyRead D.told D.seen D.may_leave D.moment D.left_since D.faults b.old b.new }
     ensures store { IsErrOf result LoadFault.Store → Rose (D.faults a.old) (D.faults a.new) ⊎ Rose (D.faults b.old) (D.faults b.new) }
+    ensures steady { (IsErrOf result LoadFault.Store → ⊥) → (D.faults a.new ≡ D.faults a.old) × (D.faults b.new ≡ D.faults b.old) }
     ensures ends { IfOk result (λ found. HasPlaces found) }
 {
     match file_in_force(a, b) {

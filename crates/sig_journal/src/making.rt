@@ -44,6 +44,7 @@ pub fn make<D: Disk>(a: &mut D, b: &mut D, kind: Kind, store_id: [u8; 16]) -> Re
     ensures free { OnOk result (IsTrue (D.told a.old) → IsTrue (D.told b.old) → first_size (D.seen a.old) (D.seen b.old) ≡ None) }
     ensures untouched { (n : ℕ) → IsErrOf result (MakeFault.Taken n) → (D.seen a.new ≡ D.seen a.old) × (D.seen b.new ≡ D.seen b.old) }
     ensures store { IsErrOf result MakeFault.Store → Rose (D.faults a.old) (D.faults a.new) ⊎ Rose (D.faults b.old) (D.faults b.new) }
+    ensures steady { OnOk result ((D.faults a.new ≡ D.faults a.old) × (D.faults b.new ≡ D.faults b.old)) }
     ensures later { (D.faults a.old ≤ D.faults a.new) × (D.faults b.old ≤ D.faults b.new) }
 {
     expect_empty(a)?;
@@ -60,6 +61,7 @@ fn expect_empty<D: Disk>(file: &mut D) -> Result<(), MakeFault>
     ensures seen { D.seen file.new ≡ D.seen file.old }
     ensures told { D.told file.new ≡ D.told file.old }
     ensures store { IsErrOf result MakeFault.Store → Rose (D.faults file.old) (D.faults file.new) }
+    ensures steady { OnOk result (D.faults file.new ≡ D.faults file.old) }
     ensures later { D.faults file.old ≤ D.faults file.new }
 {
     let size = file.size()?;

@@ -1,5 +1,5 @@
 ghost use Rattle.std.specs.Prelude.{◌≡◌, ◌≤◌, ℕ, List, IsErrOf, IsTrue, IfOk, OnErr, OnOk};
-ghost use Rattle.sig_outside.specs.Causes.{Rose};
+ghost use Rattle.sig_outside.specs.Causes.{HasCause, Rose};
 ghost use Rattle.sig_outside.specs.Disk.{Only};
 ghost use Rattle.sig_journal.specs.OnlyRead.{OnlyRead};
 ghost use Rattle.sig_journal.specs.Store.{gate_of};
@@ -17,7 +17,7 @@ pub fn settled_gate<D: Disk>(file: &mut D) -> Result<Gate, Failed>
     ensures gate { IfOk result (λ gate. IsTrue (D.told file.old) → gate ≡ gate_of (D.seen file.old)) }
     ensures durable { OnOk result (Only (D.seen file.new) (D.may_leave file.new)) }
     ensures reads { OnlyRead D.told D.seen D.may_leave D.moment D.left_since D.faults file.old file.new }
-    ensures failed { OnErr result (Rose (D.faults file.old) (D.faults file.new)) }
+    ensures cause { HasCause (D.faults file.old) (D.faults file.new) result }
 {
     file.sync()?;
     read_gate(file)
@@ -27,7 +27,7 @@ pub fn settled_gate<D: Disk>(file: &mut D) -> Result<Gate, Failed>
 fn read_gate<D: Disk>(file: &mut D) -> Result<Gate, Failed>
     ensures gate { IfOk result (λ gate. IsTrue (D.told file.old) → gate ≡ gate_of (D.seen file.old)) }
     ensures reads { OnlyRead D.told D.seen D.may_leave D.moment D.left_since D.faults file.old file.new }
-    ensures failed { OnErr result (Rose (D.faults file.old) (D.faults file.new)) }
+    ensures cause { HasCause (D.faults file.old) (D.faults file.new) result }
 {
     let mut front = [0u8; GATE_BYTES];
     let count = file.read_at(0, &mut front)?;
@@ -39,6 +39,7 @@ pub fn read_all<D: Disk>(alloc: Global, file: &mut D) -> Result<Vec<u8>, LoadFau
     ensures bytes { IfOk result (λ bytes. IsTrue (D.told file.old) → bytes.items ≡ D.seen file.old) }
     ensures reads { OnlyRead D.told D.seen D.may_leave D.moment D.left_since D.faults file.old file.new }
     ensures failed { IsErrOf result LoadFault.Store → Rose (D.faults file.old) (D.faults file.new) }
+    ensures steady { (IsErrOf result LoadFault.Store → ⊥) → D.faults file.new ≡ D.faults file.old }
     ensures whole { (n at : ℕ) → IsErrOf result (LoadFault.Damaged n at) → ⊥ }
 {
     let Ok(size) = file.size() else {
