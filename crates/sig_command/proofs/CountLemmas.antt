@@ -1,10 +1,9 @@
 -- What an input and an output counted, moment after moment.
-use Rattle.std.proofs.Common.{◌≡◌, ◌∙◌, subst, ℕ, refl, inl, inr}
-use Rattle.std.specs.Prelude.{◌⊎◌}
+use Rattle.std.proofs.Common.{◌≡◌, ◌∙◌, subst, ℕ, inl, inr}
 use Rattle.sig_outside.specs.Causes.{Raised}
 use Rattle.sig_command.specs.declared.lines_end.LinesEnd.{LinesEnd}
 use Rattle.sig_command.specs.declared.lines_end.LinesEnd.TheVariants.{Done, Stopped, Input, Output, Memory}
-use Rattle.sig_command.specs.Moment.{Calm, InputCalm, InputFailed, InputState, Moment, OutputCalm, OutputState, OutputStopped}
+use Rattle.sig_command.specs.Moment.{Calm, InputState, Moment, OutputCalm, OutputState, OutputStopped}
 use Rattle.sig_command.specs.Progress.{IsStop}
 use Rattle.sig_command.specs.Telling.{Telling, WhyEnded, WhyPut}
 

@@ -8,7 +8,6 @@ use Rattle.std.proofs.KnownBytes.{Appends-trans, Appends-nil}
 use Rattle.sig_outside.specs.Causes.{AppendsPrefix}
 use Rattle.sig_outside.specs.Lines.{Cuts, HasNoLf, Gives, Stops, number_after}
 use Rattle.sig_outside.specs.Reading.{IsFailing, IsOpen, Reading}
-use Rattle.sig_outside.specs.declared.mode.Mode.{Mode}
 use Rattle.sig_outside.specs.declared.mode.Mode.TheVariants as modes
 use Rattle.sig_outside.specs.declared.line.Line.{Line}
 use Rattle.sig_outside.specs.declared.line.Line.TheVariants.{Text, Long, End}
@@ -127,7 +126,7 @@ lines-read input kept rest more after kept' line given p parts cut =
     let short : Cuts (kept ++ more) line (kept' ++ []) = subst (Cuts (kept ++ more) line) (sym (append-nil kept')) (cuts-read kept more after kept' line rest parts cut) in
     elim p.so_far [
       | inl ends ↦ others_of read kept' [] (given ++ line ∷ [])
-      (progress-more read kept more kept' [] line given (record { prefix = p.prefix; parts = refl; so_far = inl ends }) short)
+          (progress-more read kept more kept' [] line given (record { prefix = p.prefix; parts = refl; so_far = inl ends }) short)
       | inr all ↦ absurd (not_cut line (kept' ++ after) (subst (λ bytes. Cuts bytes line (kept' ++ after)) (ap (λ bytes. bytes ++ rest) all.none_kept ∙ all.none_left) cut))
     ]
 

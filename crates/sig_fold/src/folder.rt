@@ -8,12 +8,12 @@ ghost use Rattle.sig_command.specs.Telling.{IsLineOf};
 ghost use Rattle.sig_fold.specs.Fold.{fold_telling, journal_after, journal_of, line_text};
 
 use crate::print_table;
+use sig_command::{LinesEnd, TellFault, Teller};
 use sig_json::limits::TOKEN_BYTES;
 use sig_json::{Bytes, Memory, Text};
 use sig_outside::Sink;
 use sig_rxnode::{Heard, Receiver, answer_line};
 use sig_set::{Code, Spot, Trust};
-use sig_command::{LinesEnd, TellFault, Teller};
 use std::alloc::Global;
 
 /// Judges each line as a token of an issuer, who is the principal too, and keeps what was taken.

@@ -37,11 +37,7 @@ fn main(rt: HostRuntime) -> ExitCode {
     }
 }
 
-fn take_all<I: Source, O: Sink>(
-    alloc: Global,
-    input: &mut I,
-    output: &mut O,
-) -> Result<(), Fault> {
+fn take_all<I: Source, O: Sink>(alloc: Global, input: &mut I, output: &mut O) -> Result<(), Fault> {
     let mut lines = Lines::new(alloc);
     let mut case = Case::new(alloc);
     for _ in 0..u64::MAX {

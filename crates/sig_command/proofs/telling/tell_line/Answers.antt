@@ -1,6 +1,6 @@
 use Rattle.std.proofs.Common.{refl, inl}
 use Rattle.std.proofs.lemmas.Result.{IfErr-weaker}
-use Rattle.sig_command.specs.Moment.{moment, output_state}
+use Rattle.sig_command.specs.Moment.{moment}
 use Rattle.sig_command.proofs.CountLemmas.{why_since}
 use Rattle.sig_command.proofs.ProgressLemmas.{standing-put, standing-put_failed, on_ok_map}
 use Rattle.sig_command.proofs.telling.tell_line.Goals as goal
