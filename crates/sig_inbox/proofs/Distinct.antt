@@ -1,14 +1,13 @@
--- Pairs of which no two are equal are there once each, and are copied one by one.
-use Rattle.std.proofs.Common.{◌≡◌, ◌<◌, ◌+◌, ◌∙◌, ◌||◌, ℕ, zero, suc, List, [], ◌∷◌, Bool, true, false, not, ◌&&◌, length, take, get_or, refl, sym, ap, ap₂, add-one, arith}
+-- Pairs of which no two are equal are there once each.
+use Rattle.std.proofs.Common.{◌≡◌, ◌<◌, ◌∙◌, ◌||◌, ℕ, zero, suc, List, [], ◌∷◌, Bool, true, false, not, ◌&&◌, length, take, get_or, refl, sym, ap, ap₂, arith}
 use Rattle.std.proofs.lemmas.Bool.{and_parts}
 use Rattle.std.proofs.lemmas.List.Folds.{list_any_at}
 use Rattle.std.proofs.lemmas.Slice.Eq.{bytes_eq-Decides}
-use Rattle.std.proofs.Math.Seq.{take-suc}
 use Rattle.std.specs.List.{AllByRecursion, IsDistinct}
 use Rattle.std.specs.Bool.{Decides}
 use Rattle.std.specs.Str.{bytes_eq}
 use Rattle.sig_inbox.specs.declared.pair.Pair.{Pair}
-use Rattle.sig_inbox.specs.Pairs.{pair_eq, has_pair, with_pair, are_distinct}
+use Rattle.sig_inbox.specs.Pairs.{pair_eq, has_pair, are_distinct}
 
 absent : (p : Pair) (ps : List Pair) → AllByRecursion (λ q. pair_eq p q ≡ false) ps → has_pair p ps ≡ false
 absent p [] all = refl
@@ -47,7 +46,7 @@ or_none true b one other = one refl
 or_none false b one other = other
 
 -- of distinct pairs none stands before itself
-new_at : (ps : List Pair) (i : ℕ) (d : Pair) → are_distinct ps ≡ true → i < length ps → has_pair (get_or ps i d) (take i ps) ≡ false
+pub new_at : (ps : List Pair) (i : ℕ) (d : Pair) → are_distinct ps ≡ true → i < length ps → has_pair (get_or ps i d) (take i ps) ≡ false
 new_at [] i d distinct within = absurd (omega arith)
 new_at (p ∷ ps) zero d distinct within = refl
 new_at (p ∷ ps) (suc i) d distinct within =
@@ -57,8 +56,3 @@ new_at (p ∷ ps) (suc i) d distinct within =
     or_none (pair_eq x p) (has_pair x (take i ps))
     (λ same. sym (list_any_at (pair_eq p) ps i d inside (turned x p same)) ∙ parts.0)
     (new_at ps i d parts.1 inside)
-
--- so each is added behind those before it
-pub copied_at : (ps : List Pair) (i : ℕ) (d : Pair) → are_distinct ps ≡ true → i < length ps → with_pair (get_or ps i d) (take i ps) ≡ take (i + 1) ps
-copied_at ps i d distinct within =
-    rw (new_at ps i d distinct within, add-one) (sym (take-suc ps i d within))

@@ -1,5 +1,4 @@
 ghost use Rattle.std.specs.Prelude.{◌≡◌, IfOk};
-ghost use Rattle.sig_inbox.specs.Pairs.{pair_eq};
 
 use sig_json::{Copied, Memory, Same, Text};
 use std::alloc::Global;
@@ -14,7 +13,7 @@ pub struct Pair {
 }
 
 impl Pair {
-    /// An equal pair. Want of memory is its only error.
+    /// An equal pair. Out of memory is its only error.
     pub fn copy(&self, alloc: Global) -> Result<Pair, Memory>
         ensures { IfOk result (λ p. p ≡ self.now) }
     {
@@ -22,13 +21,6 @@ impl Pair {
             iss: self.iss.copy(alloc)?,
             jti: self.jti.copy(alloc)?,
         })
-    }
-
-    /// Whether it is the pair of this issuer and this identifier.
-    pub fn is_of(&self, iss: &str, jti: &str) -> bool
-        ensures { result ≡ pair_eq (record { iss = iss.now; jti = jti.now }) self.now }
-    {
-        iss == self.iss.as_str() && jti == self.jti.as_str()
     }
 }
 

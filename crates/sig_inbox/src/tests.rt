@@ -1,4 +1,4 @@
-//! What was seen: added once, found by both texts, taken back, copied.
+//! Pairs are put once, found by both texts, and copied.
 
 use crate::{Found, Pair, Seen};
 use sig_json::{Memory, Text};
@@ -12,62 +12,43 @@ fn pair(alloc: Global, iss: &str, jti: &str) -> Result<Pair, Memory> {
     })
 }
 
-fn added(alloc: Global, seen: &mut Seen, iss: &str, jti: &str) -> Result<Found, Memory> {
-    seen.add(pair(alloc, iss, jti)?)
+// Whether the pair was new, and is there now.
+fn took(alloc: Global, seen: &mut Seen, iss: &str, jti: &str) -> Result<bool, Memory> {
+    let pair = pair(alloc, iss, jti)?;
+    if seen.has(&pair) {
+        return Ok(false);
+    }
+    seen.make_room()?;
+    seen.put(pair);
+    Ok(true)
 }
 
 #[test]
-fn a_pair_is_added_once(rt: HostRuntime) -> Result<(), Fail> {
+fn a_pair_is_taken_once_by_both_texts(rt: HostRuntime) -> Result<(), Fail> {
     let alloc = rt.alloc();
     let mut seen = Seen::new(alloc);
-    assert!(rt; added(alloc, &mut seen, "a", "1")? == Found::Added);
-    assert!(rt; added(alloc, &mut seen, "a", "2")? == Found::Added);
-    assert!(rt; added(alloc, &mut seen, "b", "1")? == Found::Added);
-    assert!(rt; added(alloc, &mut seen, "a", "2")? == Found::There);
-    assert_eq!(rt; seen.len(), 3);
-    Ok(())
-}
-
-#[test]
-fn a_pair_is_found_by_both_texts(rt: HostRuntime) -> Result<(), Fail> {
-    let alloc = rt.alloc();
-    let mut seen = Seen::new(alloc);
-    let _first = added(alloc, &mut seen, "a", "1")?;
-    let _second = added(alloc, &mut seen, "b", "2")?;
-    assert!(rt; seen.has("a", "1"));
-    assert!(rt; seen.has("b", "2"));
-    assert!(rt; !seen.has("a", "2"));
-    assert!(rt; !seen.has("1", "a"));
-    assert!(rt; !seen.has("", ""));
-    Ok(())
-}
-
-#[test]
-fn the_last_pair_is_taken_back(rt: HostRuntime) -> Result<(), Fail> {
-    let alloc = rt.alloc();
-    let mut seen = Seen::new(alloc);
-    let _first = added(alloc, &mut seen, "a", "1")?;
-    assert!(rt; added(alloc, &mut seen, "a", "2")? == Found::Added);
+    assert!(rt; took(alloc, &mut seen, "a", "1")?);
+    assert!(rt; took(alloc, &mut seen, "b", "1")?);
+    assert!(rt; !took(alloc, &mut seen, "a", "1")?);
     assert_eq!(rt; seen.len(), 2);
-    seen.take_back();
-    assert_eq!(rt; seen.len(), 1);
-    assert!(rt; seen.has("a", "1"));
-    assert!(rt; !seen.has("a", "2"));
-    assert!(rt; added(alloc, &mut seen, "a", "2")? == Found::Added);
     Ok(())
 }
 
 #[test]
-fn a_copy_has_the_same_pairs_in_order(rt: HostRuntime) -> Result<(), Fail> {
+fn an_added_pair_is_there(rt: HostRuntime) -> Result<(), Fail> {
     let alloc = rt.alloc();
     let mut seen = Seen::new(alloc);
-    let _first = added(alloc, &mut seen, "a", "1")?;
-    let _second = added(alloc, &mut seen, "a", "2")?;
-    let copy = seen.copy()?;
-    assert!(rt; copy == seen);
-    let mut other = Seen::new(alloc);
-    let _second = added(alloc, &mut other, "a", "2")?;
-    let _first = added(alloc, &mut other, "a", "1")?;
-    assert!(rt; other != seen);
+    assert!(rt; seen.add(pair(alloc, "a", "1")?)? == Found::Added);
+    assert!(rt; seen.add(pair(alloc, "a", "1")?)? == Found::There);
+    Ok(())
+}
+
+#[test]
+fn a_copy_has_the_same_pairs(rt: HostRuntime) -> Result<(), Fail> {
+    let alloc = rt.alloc();
+    let mut seen = Seen::new(alloc);
+    assert!(rt; took(alloc, &mut seen, "a", "1")?);
+    assert!(rt; seen.copy()? == seen);
+    assert!(rt; Seen::new(alloc) != seen);
     Ok(())
 }

@@ -1,0 +1,27 @@
+use Rattle.std.proofs.Common.{◌≡◌, ◌∙◌, ap, sym, false}
+use Rattle.sig_event.specs.declared.claims.Claims.{Claims}
+use Rattle.sig_inbox.specs.Pairs.{has_pair}
+use Rattle.sig_set.specs.Judgement.{claims_of}
+use Rattle.sig_receiver.specs.Journal.{pair_of}
+use Rattle.sig_receiver.specs.Receiver.{Received, committed, received, taken}
+use Rattle.sig_receiver.proofs.KeptLemmas.{known_text, new_text, of_read}
+use Rattle.sig_receiver.proofs.receiver.Receiver.take_up.Goals as goal
+
+pub returns-then-known-clause-taken : goal.returns-then-known-clause-taken
+returns-then-known-clause-taken c =
+    let state : Received = received c.args.self.now in
+    let same : claims_of c.args.text.now ≡ c.in-Ok.claims = of_read _ _ c.in-Ok.claims c.in-Ok.ensures in
+    sym (known_text state c.args.text.now
+    (ap (λ (x : Claims). has_pair (pair_of x) state.pairs) same ∙ sym c.knows-known.ensures.known ∙ c.if-known.true))
+
+pub returns-in-Ok-make_ready-clause-taken : goal.returns-in-Ok-make_ready-clause-taken
+returns-in-Ok-make_ready-clause-taken c =
+    let state : Received = received c.args.self.now in
+    let same : claims_of c.args.text.now ≡ c.in-Ok.claims = of_read _ _ c.in-Ok.claims c.in-Ok.ensures in
+    let new : has_pair (pair_of (claims_of c.args.text.now)) state.pairs ≡ false =
+    ap (λ (x : Claims). has_pair (pair_of x) state.pairs) same ∙ sym c.knows-known.ensures.known ∙ c.if-known.false in
+    c.commit.ensures
+    ∙ ap (committed c.in-Ok-make_ready.ready) c.make_ready.ensures.same
+    ∙ c.in-Ok-make_ready.ensures.makes
+    ∙ ap (taken state) (c.knows-known.ensures.same ∙ sym same)
+    ∙ sym (new_text state c.args.text.now new)

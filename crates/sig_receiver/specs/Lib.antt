@@ -1,0 +1,5 @@
+pub mod Journal
+pub mod Rows
+pub mod Receiver
+pub mod Printed
+pub mod Laws

@@ -1,4 +1,0 @@
-pub mod Journal
-pub mod Rows
-pub mod Receiver
-pub mod Printed
