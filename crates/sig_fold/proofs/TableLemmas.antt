@@ -1,7 +1,7 @@
 -- How the pieces of a table come together.
 use Rattle.std.proofs.Common.{◌≡◌, ◌∙◌, ap, sym, ℕ, ◌+◌, ◌<◌, List, ◌∷◌, ◌++◌, length, get_or, drop, arith, append_assoc, add-one}
 use Rattle.std.proofs.Math.Seq.{drop-cons}
-use Rattle.sig_rxnode.specs.Printed.{row_text, rows_text}
+use Rattle.sig_receiver.specs.Printed.{row_text, rows_text}
 use Rattle.sig_sessions.specs.declared.row.Row.{Row}
 
 -- the next row's line, and then those of the rows after it

@@ -1,7 +1,7 @@
 -- What `fold` does with one line more.
 use Rattle.std.proofs.Common.{◌≡◌, ◌∙◌, ap, sym, subst, ℕ, ◌+◌, List, [], ◌∷◌, ◌++◌, length, Option, refl, arith, append-nil}
 use Rattle.sig_json.specs.declared.limits.TheConstants.{TOKEN_BYTES}
-use Rattle.sig_rxnode.specs.Receiver.{Received, StandsFor}
+use Rattle.sig_receiver.specs.Receiver.{Held, StandsFor}
 use Rattle.sig_set.specs.declared.trust.Trust.{Trust}
 use Rattle.sig_command.specs.Telling.{IsLineOf, TakesLine}
 use Rattle.sig_fold.specs.Fold.{fold_telling, journal_after, journal_of, line_text, lines_text}
@@ -23,7 +23,7 @@ lines_text-more trust issuer given line n is =
     ∙ ap (λ k. line_text trust issuer k (journal_of trust issuer [] given) line) same)
 
 -- a line whose verdict is gathered, and that is kept, is taken
-pub fold-takes : (trust trust' : Trust) (issuer issuer' : List ℕ) (receiver receiver' : Received) (number : ℕ) (bytes : Option (List ℕ)) (gathered gathered' : List ℕ)
+pub fold-takes : (trust trust' : Trust) (issuer issuer' : List ℕ) (receiver receiver' : Held) (number : ℕ) (bytes : Option (List ℕ)) (gathered gathered' : List ℕ)
     → trust' ≡ trust → issuer' ≡ issuer
     → ((line : List ℕ) (journal : List (List ℕ)) → IsLineOf TOKEN_BYTES bytes line → StandsFor receiver journal
     → gathered' ≡ gathered ++ line_text trust issuer number journal line)

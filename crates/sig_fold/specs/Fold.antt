@@ -1,9 +1,9 @@
 -- What `fold` prints: a verdict for each line of the input, and then the session table.
 use Rattle.std.specs.Prelude.{ℕ, List, [], ◌∷◌, ◌++◌, ◌+◌, Some, None, length}
 use Rattle.sig_set.specs.declared.trust.Trust.{Trust}
-use Rattle.sig_rxnode.specs.Journal.{answer_to, journal_by, distinct}
-use Rattle.sig_rxnode.specs.Printed.{answer_text, table_text}
-use Rattle.sig_rxnode.specs.Rows.{fold_rows}
+use Rattle.sig_receiver.specs.Journal.{answer_to, journal_by, distinct}
+use Rattle.sig_receiver.specs.Printed.{answer_text, table_text}
+use Rattle.sig_receiver.specs.Rows.{fold_rows}
 use Rattle.sig_command.specs.Telling.{Telling}
 
 -- one issuer with one key, which has no name

@@ -2,8 +2,8 @@
 
 ghost use Rattle.std.specs.Prelude.{◌≡◌, ◌++◌, ℕ, List, [], OnErr, OnOk, option_copied};
 ghost use Rattle.sig_json.specs.declared.limits.TheConstants.{TOKEN_BYTES};
-ghost use Rattle.sig_rxnode.specs.Printed.{answer_text};
-ghost use Rattle.sig_rxnode.specs.Receiver.{StandsFor};
+ghost use Rattle.sig_receiver.specs.Printed.{answer_text};
+ghost use Rattle.sig_receiver.specs.Receiver.{StandsFor};
 ghost use Rattle.sig_command.specs.Telling.{IsLineOf};
 ghost use Rattle.sig_fold.specs.Fold.{fold_telling, journal_after, journal_of, line_text};
 
@@ -12,7 +12,7 @@ use sig_command::{LinesEnd, TellFault, Teller};
 use sig_json::limits::TOKEN_BYTES;
 use sig_json::{Bytes, Memory, Text};
 use sig_outside::Sink;
-use sig_rxnode::{Heard, Receiver, answer_line};
+use sig_receiver::{Heard, Receiver, answer_line};
 use sig_set::{Code, Spot, Trust};
 use std::alloc::Global;
 

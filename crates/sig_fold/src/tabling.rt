@@ -2,14 +2,14 @@
 
 ghost use Rattle.std.specs.Prelude.{◌≡◌, ◌++◌, ℕ, List, IfErr, OnErr, OnOk, length};
 ghost use Rattle.std.specs.Io.KnownBytes.{Appends};
-ghost use Rattle.sig_rxnode.specs.Printed.{counts_text, row_text, rows_text, table_text};
+ghost use Rattle.sig_receiver.specs.Printed.{counts_text, row_text, rows_text, table_text};
 ghost use Rattle.sig_command.specs.Moment.{OutputCalm, output_state};
 ghost use Rattle.sig_command.specs.Telling.{PutSo, WhyPut};
 
 use sig_command::{LinesEnd, put_gathered, put_if};
 use sig_json::{Bytes, Memory};
 use sig_outside::Sink;
-use sig_rxnode::{Receiver, counts_line, row_line};
+use sig_receiver::{Receiver, counts_line, row_line};
 use sig_sessions::Row;
 use std::alloc::Global;
 

@@ -34,11 +34,11 @@ impl Guard {
     /// Judges a token, and takes it where it is valid and new. A repeat has no second effect: an old token that is
     /// brought again must not undo what a later one told. A refusal, `Memory` among them, leaves all as it was.
     pub fn take(&mut self, token: &[u8]) -> Result<Found, Refusal>
-        ensures answer { Answers Refusal.Memory result (answer_to self.old.seen (result_of (judged self.old.trust (Some self.old.issuer) None token.now))) }
-        ensures rows { OnOk result (self.new.table.rows ≡ rows_after self.old.seen self.old.table.rows (result_of (judged self.old.trust (Some self.old.issuer) None token.now))) }
-        ensures pairs { OnOk result (self.new.seen ≡ pairs_after self.old.seen (result_of (judged self.old.trust (Some self.old.issuer) None token.now))) }
+        ensures answer { Answers Refusal.Memory result (answer_to self.old.seen.pairs (result_of (judged self.old.trust (Some self.old.issuer) None token.now))) }
+        ensures rows { OnOk result (self.new.table.rows ≡ rows_after self.old.seen.pairs self.old.table.rows (result_of (judged self.old.trust (Some self.old.issuer) None token.now))) }
+        ensures pairs { OnOk result (self.new.seen.pairs ≡ pairs_after self.old.seen.pairs (result_of (judged self.old.trust (Some self.old.issuer) None token.now))) }
         ensures err_rows { OnErr result (self.new.table.rows ≡ self.old.table.rows) }
-        ensures err_pairs { OnErr result (self.new.seen ≡ self.old.seen) }
+        ensures err_pairs { OnErr result (self.new.seen.pairs ≡ self.old.seen.pairs) }
         ensures trust { self.new.trust ≡ self.old.trust }
         ensures issuer { self.new.issuer ≡ self.old.issuer }
         ensures session { self.new.session ≡ self.old.session }

@@ -7,7 +7,7 @@ use Rattle.std.proofs.lemmas.Bool.{and_parts}
 use Rattle.std.proofs.lemmas.List.Elements.{All-map, All-nil, All-take, All-weaker}
 use Rattle.std.proofs.lemmas.Str.{IsUtf8-from_is_utf8}
 use Rattle.sig_json.specs.declared.limits.TheConstants.{LAST_NUMBER, STREAMS_PER_CLIENT}
-use Rattle.sig_rxnode.specs.Journal.{pairs_of}
+use Rattle.sig_receiver.specs.Journal.{pairs_of}
 use Rattle.sig_inbox.specs.Pairs.{has_pair}
 use Rattle.sig_outbox.specs.declared.rules.Client.{Client}
 use Rattle.sig_outbox.specs.declared.rules.Rules.{Rules}

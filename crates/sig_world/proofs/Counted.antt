@@ -6,9 +6,9 @@ use Rattle.std.specs.List.{list_any, list_all, cons_option}
 use Rattle.std.proofs.lemmas.Bool.{and_parts, eqb-true, or_cases}
 use Rattle.std.proofs.lemmas.List.Elements.{All-contains, All-head, All-map, All-tail, All-weaker}
 use Rattle.sig_event.specs.declared.claims.Claims.{Claims}
-use Rattle.sig_rxnode.specs.declared.heard.Heard.{Heard}
-use Rattle.sig_rxnode.specs.declared.heard.Heard.TheVariants.{Accepted, Seen, NotTaken}
-use Rattle.sig_rxnode.specs.Journal.{pair_of, pairs_of}
+use Rattle.sig_receiver.specs.declared.heard.Heard.{Heard}
+use Rattle.sig_receiver.specs.declared.heard.Heard.TheVariants.{Accepted, Seen, NotTaken}
+use Rattle.sig_receiver.specs.Journal.{pair_of, pairs_of}
 use Rattle.sig_inbox.specs.declared.pair.Pair.{Pair}
 use Rattle.sig_inbox.specs.Pairs.{has_pair}
 use Rattle.sig_set.specs.Spelled.{code_text}

@@ -3,9 +3,9 @@ use Rattle.std.proofs.Common.{◌∙◌, ap, sym, ℕ, List, [], ◌∷◌, ◌+
 use Rattle.std.specs.Prelude.{nat_le}
 use Rattle.std.specs.List.{slice_get}
 use Rattle.sig_json.specs.declared.limits.TheConstants.{LAST_NUMBER}
-use Rattle.sig_rxnode.specs.declared.heard.Heard.{Heard}
-use Rattle.sig_rxnode.specs.declared.heard.Heard.TheVariants.{Accepted, Seen, NotTaken}
-use Rattle.sig_rxnode.specs.Journal.{journal_by}
+use Rattle.sig_receiver.specs.declared.heard.Heard.{Heard}
+use Rattle.sig_receiver.specs.declared.heard.Heard.TheVariants.{Accepted, Seen, NotTaken}
+use Rattle.sig_receiver.specs.Journal.{journal_by}
 use Rattle.sig_outbox.specs.declared.token.Token.{Token}
 use Rattle.sig_outbox.specs.declared.call.Call.{Call}
 use Rattle.sig_outbox.specs.Table.{over_top}

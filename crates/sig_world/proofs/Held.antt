@@ -5,14 +5,14 @@ use Rattle.std.proofs.lemmas.Bool.{and_from, or_cases, or_left, or_right}
 use Rattle.std.proofs.lemmas.List.Elements.{All-append, All-cons, All-contains, All-contains_itself, All-head, All-nil, All-push, All-tail, All-weaker, Contains-append_left}
 use Rattle.std.proofs.lemmas.List.Folds.{list_any-append}
 use Rattle.sig_event.specs.declared.claims.Claims.{Claims}
-use Rattle.sig_rxnode.specs.declared.heard.Heard.TheVariants.{Accepted, Seen}
+use Rattle.sig_receiver.specs.declared.heard.Heard.TheVariants.{Accepted, Seen}
 use Rattle.sig_set.specs.Checks.{Fault}
 use Rattle.sig_set.specs.Judgement.{claims_of}
-use Rattle.sig_rxnode.specs.Journal.{pair_of, pairs_of, distinct, answer_by, journal_by}
+use Rattle.sig_receiver.specs.Journal.{pair_of, pairs_of, distinct, answer_by, journal_by}
 use Rattle.sig_set.specs.Judgement.{judged_by}
 use Rattle.sig_inbox.specs.declared.pair.Pair.{Pair}
 use Rattle.sig_inbox.specs.Pairs.{has_pair}
-use Rattle.sig_rxnode.proofs.JournalLemmas.{distinct-more, pairs_of-more}
+use Rattle.sig_receiver.proofs.JournalLemmas.{distinct-more, pairs_of-more}
 use Rattle.sig_set.proofs.ProperClaims.{bytes_same}
 use Rattle.sig_outbox.specs.declared.fact.Fact.{Fact}
 use Rattle.sig_outbox.specs.declared.token.Token.{Token}

@@ -3,9 +3,10 @@ use Rattle.std.proofs.Common.{◌≡◌, ◌∙◌, ap, sym, ℕ, zero, suc, ◌
 use Rattle.std.proofs.lemmas.List.{length-map}
 use Rattle.std.specs.List.{slice_get}
 use Rattle.sig_set.specs.Judgement.{claims_of}
-use Rattle.sig_rxnode.specs.Journal.{pair_of, distinct}
-use Rattle.sig_rxnode.specs.Printed.{table_text}
-use Rattle.sig_rxnode.specs.Rows.{fold_rows}
+use Rattle.sig_receiver.specs.Journal.{pair_of, distinct}
+use Rattle.sig_receiver.specs.Printed.{table_text}
+use Rattle.sig_receiver.specs.Receiver.{Received, nothing, received, received_of}
+use Rattle.sig_receiver.specs.Rows.{fold_rows}
 use Rattle.sig_outbox.specs.History.{Stream}
 use Rattle.sig_outbox.specs.Owed.{Sum}
 use Rattle.sig_world.specs.declared.replayer.Replayer.{Replayer}
@@ -44,9 +45,10 @@ owed-past sum (s ∷ ss) (suc place) h =
 pub end-kept : (r : Replayer) (w : World) → IsAt r w
     → end_text w ≡ table_text r.receiver.rows (length r.receiver.pairs) ++ owed_text r.outbox.sum r.outbox.sum.parts.streams
 end-kept r w at =
-    let rows : fold_rows [] (distinct [] w.journal) ≡ r.receiver.rows = ap (fold_rows []) at.received.alone ∙ sym at.received.rows in
+    let kept : received r.receiver ≡ received_of nothing w.journal = at.received in
+    let rows : fold_rows [] (distinct [] w.journal) ≡ r.receiver.rows = ap (λ (s : Received). s.rows) (sym kept) in
     let count : length (distinct [] w.journal) ≡ length r.receiver.pairs =
-    ap length at.received.alone ∙ sym (length-map w.journal (λ text. pair_of (claims_of text))) ∙ ap length (sym at.received.pairs) in
+    sym (length-map (distinct [] w.journal) (λ text. pair_of (claims_of text))) ∙ ap (λ (s : Received). length s.pairs) (sym kept) in
     let owed : owed_text (sum_in replay_ends w) (sum_in replay_ends w).parts.streams ≡ owed_text r.outbox.sum r.outbox.sum.parts.streams =
     ap (λ (s : Sum). owed_text s s.parts.streams) (sym at.sum) in
     ap (λ rs. table_text rs (length (distinct [] w.journal)) ++ owed_text (sum_in replay_ends w) (sum_in replay_ends w).parts.streams) rows

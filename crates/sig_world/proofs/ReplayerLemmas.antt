@@ -6,9 +6,9 @@ use Rattle.std.proofs.lemmas.Str.{is_utf8-from_IsUtf8}
 use Rattle.sig_set.proofs.ProperClaims.{ascii}
 use Rattle.std.proofs.lemmas.Bool.{lt-leb}
 use Rattle.sig_json.specs.declared.limits.TheConstants.{LAST_NUMBER, SCRIPT_LINE_BYTES}
-use Rattle.sig_rxnode.specs.declared.heard.Heard.{Heard}
-use Rattle.sig_rxnode.specs.Journal.{answer_to, journal_by}
-use Rattle.sig_rxnode.specs.Receiver.{StandsFor}
+use Rattle.sig_receiver.specs.declared.heard.Heard.{Heard}
+use Rattle.sig_receiver.specs.Journal.{answer_to, journal_by}
+use Rattle.sig_receiver.specs.Receiver.{StandsFor}
 use Rattle.sig_set.specs.Written.{token_text}
 use Rattle.sig_outbox.specs.declared.answer.Answer.{Answer}
 use Rattle.sig_outbox.specs.declared.call.Call.{Call}

@@ -6,7 +6,7 @@ use Rattle.std.proofs.lemmas.Bool.{leb-true}
 use Rattle.std.proofs.lemmas.List.Elements.{All-contains, All-contains_itself, All-head, All-map, All-nil, All-tail, All-weaker}
 use Rattle.sig_json.specs.declared.limits.TheConstants.{LAST_NUMBER}
 use Rattle.sig_set.specs.Judgement.{checks, claims_of}
-use Rattle.sig_rxnode.specs.Journal.{pairs_of}
+use Rattle.sig_receiver.specs.Journal.{pairs_of}
 use Rattle.sig_inbox.specs.Pairs.{has_pair}
 use Rattle.sig_set.specs.Written.{token_text}
 use Rattle.sig_set.proofs.JudgedValid.{written_claims}

@@ -2,7 +2,7 @@
 use Rattle.std.specs.Prelude.{◌≡◌, ℕ, List, [], ◌++◌, ◌==◌, Bool, true, false, ◌&&◌, Some, is_none, map, bytes_eq, All, Contains, IsUtf8}
 use Rattle.std.specs.List.{list_any}
 use Rattle.sig_event.specs.declared.claims.Claims.{Claims}
-use Rattle.sig_rxnode.specs.Journal.{pair_of, pairs_of, distinct}
+use Rattle.sig_receiver.specs.Journal.{pair_of, pairs_of, distinct}
 use Rattle.sig_inbox.specs.Pairs.{has_pair}
 use Rattle.sig_set.specs.Judgement.{claims_of}
 use Rattle.sig_outbox.specs.declared.fact.Fact.{Fact}

@@ -9,13 +9,13 @@ use Rattle.sig_subject.specs.declared.subject.Subject.TheVariants as subject
 use Rattle.sig_caep.specs.declared.kind.CaepKind.TheVariants as caep
 use Rattle.sig_event.specs.declared.event.Event.{Event}
 use Rattle.sig_event.specs.declared.event.Event.TheVariants as event
-use Rattle.sig_rxnode.specs.declared.heard.Heard.{Heard}
-use Rattle.sig_rxnode.specs.declared.heard.Heard.TheVariants.{Accepted, Seen, NotTaken}
+use Rattle.sig_receiver.specs.declared.heard.Heard.{Heard}
+use Rattle.sig_receiver.specs.declared.heard.Heard.TheVariants.{Accepted, Seen, NotTaken}
 use Rattle.sig_set.specs.declared.trust.Trust.{Trust}
-use Rattle.sig_rxnode.specs.Journal.{distinct}
-use Rattle.sig_rxnode.specs.Printed.{table_text, yes_or_no}
+use Rattle.sig_receiver.specs.Journal.{distinct}
+use Rattle.sig_receiver.specs.Printed.{table_text, yes_or_no}
 use Rattle.sig_set.specs.Spelled.{code_text, spot_text}
-use Rattle.sig_rxnode.specs.Rows.{fold_rows}
+use Rattle.sig_receiver.specs.Rows.{fold_rows}
 use Rattle.sig_outbox.specs.declared.want.Defaults.TheVariants as defaults
 use Rattle.sig_outbox.specs.declared.rules.Client.{Client}
 use Rattle.sig_outbox.specs.declared.rules.Rules.{Rules}

@@ -1,6 +1,6 @@
 -- Where a replay stands between two lines.
 use Rattle.std.specs.Prelude.{◌≡◌, ℕ, List, ◌++◌, Some, None}
-use Rattle.sig_rxnode.specs.Receiver.{StandsFor}
+use Rattle.sig_receiver.specs.Receiver.{StandsFor}
 use Rattle.sig_world.specs.declared.replayer.Replayer.{Replayer}
 use Rattle.sig_command.specs.declared.stop.TellFault.{TellFault}
 use Rattle.sig_command.specs.declared.stop.TellFault.TheVariants as faults

@@ -3,11 +3,11 @@ use Rattle.std.specs.Option.{option_to_list}
 use Rattle.std.specs.Prelude.{ℕ, zero, suc, List, [], ◌∷◌, ◌++◌, Bool, true, false, ◌&&◌, Option, Some, None, bytes_eq, nat_le, if◌then◌else◌}
 use Rattle.std.specs.List.{list_any, list_all, slice_get}
 use Rattle.sig_json.specs.declared.limits.TheConstants.{LAST_NUMBER}
-use Rattle.sig_rxnode.specs.declared.heard.Heard.{Heard}
-use Rattle.sig_rxnode.specs.declared.heard.Heard.TheVariants.{Accepted, Seen, NotTaken}
+use Rattle.sig_receiver.specs.declared.heard.Heard.{Heard}
+use Rattle.sig_receiver.specs.declared.heard.Heard.TheVariants.{Accepted, Seen, NotTaken}
 use Rattle.sig_set.specs.declared.trust.Trust.{Trust}
 use Rattle.sig_set.specs.Spelled.{code_text}
-use Rattle.sig_rxnode.specs.Journal.{answer_to, journal_by}
+use Rattle.sig_receiver.specs.Journal.{answer_to, journal_by}
 use Rattle.sig_set.specs.Written.{token_text}
 use Rattle.sig_outbox.specs.declared.rules.Rules.{Rules}
 use Rattle.sig_outbox.specs.declared.token.Token.{Token}

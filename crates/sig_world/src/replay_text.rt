@@ -1,12 +1,12 @@
 //! What the lines of a script print.
 
 ghost use Rattle.std.specs.Prelude.{◌≡◌, ◌++◌, ◌+◌, ◌<◌, ◌≤◌, IfOk, OnOk, codes, decimal, length, string_bytes};
-ghost use Rattle.sig_rxnode.specs.Printed.{yes_or_no};
+ghost use Rattle.sig_receiver.specs.Printed.{yes_or_no};
 ghost use Rattle.sig_world.specs.Replay.{call_text, heard_text, heard_word, issued_text, messages_text, numbered, token_name};
 
 use sig_json::{Bytes, Items, Memory};
 use sig_outbox::{Answer, Issued, Token};
-use sig_rxnode::Heard;
+use sig_receiver::Heard;
 use std::alloc::Global;
 
 /// Adds what the transmitter's answer prints, after so many messages.

@@ -25,7 +25,7 @@ use sig_outbox::{
     Answer, Call, Outbox, Outcome, PollAsk, PrepareFault, Prepared, Rules, Step, Token, Want,
 };
 use sig_outside::Sink;
-use sig_rxnode::{Heard, Receiver};
+use sig_receiver::{Heard, Receiver};
 use sig_set::{Code, Trust, signed_claims};
 use sig_subject::{Plain, Simple, Subject};
 use std::alloc::Global;

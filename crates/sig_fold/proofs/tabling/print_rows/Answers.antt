@@ -1,5 +1,5 @@
 use Rattle.std.proofs.Common.{◌∙◌, ap, sym, refl, ◌+◌, ◌++◌, drop, arith}
-use Rattle.sig_rxnode.specs.Printed.{row_text, rows_text}
+use Rattle.sig_receiver.specs.Printed.{row_text, rows_text}
 use Rattle.std.proofs.KnownBytes.{Appends-trans}
 use Rattle.sig_command.specs.Moment.{output_state}
 use Rattle.sig_command.proofs.CountLemmas.{output_calm-then, put_why-since}

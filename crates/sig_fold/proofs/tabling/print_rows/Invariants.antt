@@ -1,7 +1,7 @@
 use Rattle.std.proofs.Common.{◌≡◌, ◌+◌, ◌++◌, ℕ, List, drop}
 use Rattle.std.specs.Io.KnownBytes.{Appends}
 use Rattle.sig_command.specs.Moment.{OutputCalm, output_state}
-use Rattle.sig_rxnode.specs.Printed.{rows_text}
+use Rattle.sig_receiver.specs.Printed.{rows_text}
 use Rattle.sig_fold.proofs.tabling.print_rows.Given as goal
 
 abbrev pub invariant-loop-row : goal.invariant-loop-row

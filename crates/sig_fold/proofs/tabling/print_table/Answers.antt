@@ -1,5 +1,5 @@
 use Rattle.std.proofs.Common.{◌∙◌, ap, sym, ◌++◌, length, append_assoc}
-use Rattle.sig_rxnode.specs.Printed.{counts_text, rows_text}
+use Rattle.sig_receiver.specs.Printed.{counts_text, rows_text}
 use Rattle.sig_command.specs.Moment.{output_state}
 use Rattle.sig_command.proofs.CountLemmas.{put_why-since}
 use Rattle.sig_command.proofs.PutLemmas.{put_join, put_longer}

@@ -1,5 +1,5 @@
 use Rattle.std.proofs.Common.{◌∙◌, ◌++◌, ap, sym, subst, length, append_assoc}
-use Rattle.sig_rxnode.specs.Printed.{table_text}
+use Rattle.sig_receiver.specs.Printed.{table_text}
 use Rattle.sig_command.specs.Moment.{output_state}
 use Rattle.sig_command.specs.Telling.{PutSo, WhyPut}
 use Rattle.sig_command.proofs.CountLemmas.{put_why-since}
