@@ -1,15 +1,13 @@
 -- What a loop has collected of a list of texts or of events: what is left decides.
-use Rattle.std.proofs.Common.{◌≡◌, ℕ, List, [], ◌∷◌, ◌++◌, ◌||◌, append-nil, Bool, true, false, Option, Some, None, refl, sym, ap, ◌∙◌, append_assoc}
-use Rattle.std.specs.Prelude.{bytes_eq, is_some, Ok, String, string_bytes}
+use Rattle.std.proofs.Common.{◌≡◌, ℕ, List, [], ◌∷◌, ◌++◌, append-nil, Option, Some, None, refl, sym, ap, ◌∙◌, append_assoc}
+use Rattle.std.specs.Prelude.{Ok, String, string_bytes}
 use Rattle.std.specs.declared.alloc.Global.{Global}
 use Rattle.serde_json.specs.declared.value.Value.{Value}
 use Rattle.serde_json.specs.View.{members_view, view}
 use Rattle.sig_subject.specs.declared.subject.Subject.{Subject}
-use Rattle.std.specs.List.{list_any}
 use Rattle.sig_event.specs.declared.event.Event.{Event}
 use Rattle.sig_event.specs.Events.{event_of}
 use Rattle.sig_set.specs.Claims.{event_before, events_of, one_before}
-use Rattle.sig_set.specs.Tests.{where_there}
 
 -- what was collected, and then the rest
 abbrev pub behind : {T : Type 0} → List T → Option (List T) → Option (List T)
@@ -34,23 +32,6 @@ text_behind done text (Some rest) = ap Some (sym (append_assoc done (text ∷ []
 pub event_behind : (done : List Event) (e : Event) (rest : Option (List Event)) → behind done (event_before (Ok e) rest) ≡ behind (done ++ e ∷ []) rest
 event_behind done e None = refl
 event_behind done e (Some rest) = ap Some (sym (append_assoc done (e ∷ []) rest))
-
--- a text before others changes nothing of whether they are texts
-pub text_is_some : (text : List ℕ) (rest : Option (List (List ℕ))) → is_some (one_before (Some text) rest) ≡ is_some rest
-text_is_some text None = refl
-text_is_some text (Some rest) = refl
-
--- the text that is looked for was found, or is in the rest
-abbrev pub found_or_in : List ℕ → Bool → Option (List (List ℕ)) → Bool
-found_or_in text found rest = where_there (λ texts. found || list_any (bytes_eq text) texts) rest
-
-or_assoc : (a b c : Bool) → a || (b || c) ≡ (a || b) || c
-or_assoc true b c = refl
-or_assoc false b c = refl
-
-pub found_step : (text next : List ℕ) (found : Bool) (rest : Option (List (List ℕ))) → found_or_in text found (one_before (Some next) rest) ≡ found_or_in text (found || bytes_eq text next) rest
-found_step text next found None = refl
-found_step text next found (Some rest) = or_assoc found (bytes_eq text next) (list_any (bytes_eq text) rest)
 
 -- the first member that an iterator has left is an event
 pub event_step : (s : Subject) (done : List Event) (entries rest : List (String Global × Value)) (name : String Global) (value : Value) (text : List ℕ) (e : Event)

@@ -17,8 +17,8 @@ is_token_type text =
     str_eq_ignore_ascii_case text (codes "secevent+jwt") || str_eq_ignore_ascii_case text (codes "application/secevent+jwt")
 
 -- the header says that it is a token
-abbrev pub says_token : Option Data → Bool
-says_token header = where_there is_token_type (option_and_then (text_member (codes "typ")) header)
+abbrev pub has_token_type : Option Data → Bool
+has_token_type header = where_there is_token_type (option_and_then (text_member (codes "typ")) header)
 
 -- whether a header that names a key so may mean a key of this name: a text means the key of that name and every key
 -- without one, anything else means none

@@ -1,6 +1,6 @@
 -- The judgement of a token: a list of checks over its whole text, of which the first that fails decides (RFC 8417, section
 -- 2; RFC 7515, section 5.2; codes of RFC 8935, section 2.4).
-use Rattle.std.specs.Prelude.{ℕ, List, [], ◌∷◌, ◌++◌, Bool, false, not, Option, Some, None, bytes_eq, codes, is_ok, is_some, length, nat_le, option_and_then, option_map, unwrap_or, if◌then◌else◌, Result, Ok, Err}
+use Rattle.std.specs.Prelude.{ℕ, List, [], ◌∷◌, ◌++◌, Bool, false, not, Option, Some, None, bytes_eq, codes, find, is_ok, is_some, length, nat_le, option_and_then, option_map, unwrap_or, Result, Ok, Err}
 use Rattle.std.specs.Result.{result_ok}
 use Rattle.std.specs.List.{list_any}
 use Rattle.serde_json.specs.Data.{Data}
@@ -22,7 +22,7 @@ use Rattle.sig_set.specs.declared.refusal.Refusal.{Refusal}
 use Rattle.sig_set.specs.declared.refusal.Refusal.TheVariants.{Coded}
 use Rattle.sig_set.specs.Checks.{Fault, refused_unless}
 use Rattle.sig_set.specs.Claims.{audience_in, claims_in, content_checks, text_in}
-use Rattle.sig_set.specs.Header.{has_candidate, is_verified, kid_in, says_token}
+use Rattle.sig_set.specs.Header.{has_candidate, is_verified, kid_in, has_token_type}
 use Rattle.sig_set.specs.Tests.{is_text, where_there}
 
 -- a token is valid with these claims, or refused
@@ -45,10 +45,9 @@ payload_in token = option_and_then (λ (c : Compact). json_of c.payload) token
 
 -- ---- whom a receiver trusts
 
--- the issuer of this name
+-- the first issuer of this name
 abbrev pub issuer_named : List ℕ → List Issuer → Option Issuer
-issuer_named iss [] = None
-issuer_named iss (issuer ∷ issuers) = if bytes_eq issuer.iss iss then Some issuer else issuer_named iss issuers
+issuer_named iss issuers = find (λ (issuer : Issuer). bytes_eq issuer.iss iss) issuers
 
 -- the issuer that a payload names
 abbrev pub issuer_in : List Issuer → Option Data → Option Issuer
@@ -79,7 +78,7 @@ text_checks bytes =
 abbrev pub header_checks : Option Data → List (Check Fault)
 header_checks header =
     refused_unless InvalidRequest spot.Header (where_there is_object header)
-    ∷ refused_unless InvalidRequest spot.Typ (says_token header)
+    ∷ refused_unless InvalidRequest spot.Typ (has_token_type header)
     ∷ refused_unless InvalidRequest spot.Crit (not (is_some (option_and_then (member_of (codes "crit")) header)))
     ∷ []
 
@@ -115,7 +114,7 @@ abbrev pub audience_checks : List ℕ → Option Data → List (Check Fault)
 audience_checks audience payload =
     refused_unless InvalidAudience spot.Aud (where_there (list_any (bytes_eq audience)) (audience_in payload)) ∷ []
 
--- the checks of a token's parts behind its form
+-- the checks of a token's parts after its form
 abbrev pub trust_checks : Trust → Option (List ℕ) → Option Compact → Option Data → Option Data → List (Check Fault)
 trust_checks trust principal token header payload =
     issuer_checks trust.issuers principal payload

@@ -15,7 +15,7 @@ use Rattle.sig_event.specs.declared.event.Event.{Event}
 use Rattle.sig_set.specs.declared.trust.Issuer.{Issuer}
 use Rattle.sig_set.specs.declared.trust.Trust.{Trust}
 use Rattle.sig_set.specs.Claims.{ClaimsAre}
-use Rattle.sig_set.specs.Header.{is_candidate, says_token}
+use Rattle.sig_set.specs.Header.{is_candidate, has_token_type}
 use Rattle.sig_set.specs.Judgement.{Valid, issuer_named, judged}
 use Rattle.sig_set.specs.Reading.{claims_read}
 use Rattle.sig_set.specs.Written.{IsProperClaims, payload_of, payload_text_of, token_text, written_of}
@@ -60,7 +60,7 @@ pub record IsValid (trust : Trust) (principal named : Option (List ℕ)) (text :
   pub signing : text ≡ signed header payload key.bytes
   pub head : Data
   pub header_spells : json_of header ≡ Some head
-  pub typed : says_token (Some head) ≡ true
+  pub typed : has_token_type (Some head) ≡ true
   pub algorithm : text_member (codes "alg") head ≡ Some (codes "HS256")
   pub extended : member_of (codes "crit") head ≡ None
   pub issuer : Issuer

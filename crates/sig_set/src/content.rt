@@ -10,7 +10,6 @@ ghost use Rattle.sig_json.specs.Members.{has_members};
 ghost use Rattle.sig_set.specs.Claims.{audience_in, claims_in, content_checks, event_checks, events_in, events_of, stamp_checks, subject_checks, subject_in, text_in};
 ghost use Rattle.sig_set.specs.Tests.{has_member, is_filled_and_wanted, where_there};
 
-use crate::audience::audience;
 use crate::refusal::refused;
 use crate::values::{text_in, time_of};
 use crate::{Claims, Code, Refusal, Spot};
@@ -22,14 +21,22 @@ use std::alloc::Global;
 
 /// The claims that the payload says, under this identifier where one is named: `InvalidRequest` at the first member
 /// that isn't as it has to be.
-pub fn content(alloc: Global, named: Option<&Text>, payload: &Value) -> Result<Claims, Refusal>
+///
+/// The audience is that of the payload, which the caller has read.
+pub fn content(
+    alloc: Global,
+    named: Option<&Text>,
+    payload: &Value,
+    audience: Option<Items<Text>>,
+) -> Result<Claims, Refusal>
+    requires { audience ≡ audience_in (Some (view payload.now)) }
     ensures { Answers Refusal.Memory result
         (unless_refused (first_failing (content_checks (option_copied named.entry) (Some (view payload.now)))) (claims_in (Some (view payload.now)))) }
 {
     check_stamp(named, payload)?;
     let subject = subject(alloc, payload)?;
     let events = events(alloc, &subject, payload)?;
-    let claims = claims(alloc, payload, subject, events)?;
+    let claims = claims(alloc, payload, audience, subject, events)?;
     Ok(claims)
 }
 
@@ -37,31 +44,32 @@ pub fn content(alloc: Global, named: Option<&Text>, payload: &Value) -> Result<C
 fn claims(
     alloc: Global,
     payload: &Value,
+    audience: Option<Items<Text>>,
     subject: Subject,
     events: Items<Event>,
 ) -> Result<Claims, Memory>
+    requires { audience ≡ audience_in (Some (view payload.now)) }
     ensures { IfOk result (λ claims. claims ≡ record (claims_in (Some (view payload.now))) { subject = subject; events = events }) }
 {
     let iss = text_in(alloc, payload, "iss")?;
     let jti = text_in(alloc, payload, "jti")?;
-    let aud = all_audiences(alloc, payload)?;
     Ok(Claims {
         iss,
         jti,
         iat: time_of(payload, "iat").unwrap_or(0),
-        aud,
+        aud: or_nobody(alloc, audience),
         subject,
         events,
     })
 }
 
-/// The payload's audience, nobody where it has none.
-fn all_audiences(alloc: Global, payload: &Value) -> Result<Items<Text>, Memory>
-    ensures { IfOk result (λ texts. texts ≡ unwrap_or (audience_in (Some (view payload.now))) []) }
+/// The audience, nobody where there is none.
+fn or_nobody(alloc: Global, audience: Option<Items<Text>>) -> Items<Text>
+    ensures { result ≡ unwrap_or audience [] }
 {
-    match audience(alloc, payload)? {
-        Some(texts) => Ok(texts),
-        None => Ok(Items::of(Vec::new(alloc))),
+    match audience {
+        Some(texts) => texts,
+        None => Items::of(Vec::new(alloc)),
     }
 }
 

@@ -7,14 +7,14 @@ ghost use Rattle.sig_set.specs.Header as spec;
 ghost use Rattle.sig_set.specs.Judgement.{key_checks};
 
 use crate::refusal::refused;
-use crate::values::says;
+use crate::values::has_text;
 use crate::{Code, Refusal, Spot};
 use sig_json::{Value, text_of};
 use sig_jws::{Compact, Key, verifies};
 
 /// Whether the header's `typ` is that of a security event token.
-pub fn says_token(header: &Value) -> bool
-    ensures { result ≡ spec.says_token (Some (view header.now)) }
+pub fn has_token_type(header: &Value) -> bool
+    ensures { result ≡ spec.has_token_type (Some (view header.now)) }
 {
     match text_of(header, "typ") {
         None => false,
@@ -33,7 +33,7 @@ fn is_token_type(text: &str) -> bool
 pub fn verify(token: &Compact, header: &Value, keys: &[Key]) -> Result<(), Refusal>
     ensures { result ≡ passed (key_checks (Some token.now) (Some (view header.now)) keys.now) }
 {
-    if !says(header, "alg", "HS256") {
+    if !has_text(header, "alg", "HS256") {
         return Err(refused(Code::InvalidKey, Spot::Alg));
     }
     let kid = header.get("kid");

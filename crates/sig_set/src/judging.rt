@@ -2,17 +2,17 @@ ghost use Rattle.std.specs.Prelude.{◌≡◌, IfOk, Some, codes, option_copied,
 ghost use Rattle.serde_json.specs.View.{view};
 ghost use Rattle.sig_json.specs.Answers.{Answers};
 ghost use Rattle.sig_set.specs.Checks.{outcome, passed};
-ghost use Rattle.sig_set.specs.Claims.{text_in};
+ghost use Rattle.sig_set.specs.Claims.{audience_in, text_in};
 ghost use Rattle.sig_set.specs.Judgement.{issuer_checks, issuer_in, issuer_named, judged, keys_in, result_of, speaks_for, trust_checks};
 
-use crate::audience::is_for;
+use crate::audience::{audience, has_name};
 use crate::content::content;
 use crate::header::verify;
 use crate::opening::{Opened, open};
 use crate::refusal::refused;
-use crate::values::says;
+use crate::values::has_text;
 use crate::{Claims, Code, Issuer, Refusal, Spot, Trust};
-use sig_json::{Text, Value, text_of};
+use sig_json::{Items, Text, Value, text_of};
 use sig_jws::Key;
 use std::alloc::Global;
 
@@ -51,19 +51,26 @@ pub fn judge(
         return Err(refused(Code::AuthenticationFailed, Spot::Bearer));
     }
     let opened = open(alloc, bytes)?;
-    check_trust(trust, principal, &opened)?;
-    content(alloc, named, &opened.payload)
+    let audience = audience(alloc, &opened.payload)?;
+    check_trust(trust, principal, &opened, &audience)?;
+    content(alloc, named, &opened.payload, audience)
 }
 
 /// That the token is by an issuer who is trusted and for whom the bearer speaks, signed by a key of it, and for the
 /// trust's own audience.
-fn check_trust(trust: &Trust, principal: Option<&Text>, opened: &Opened) -> Result<(), Refusal>
+fn check_trust(
+    trust: &Trust,
+    principal: Option<&Text>,
+    opened: &Opened,
+    audience: &Option<Items<Text>>,
+) -> Result<(), Refusal>
+    requires { audience.now ≡ audience_in (Some (view opened.now.payload)) }
     ensures { result ≡ passed
         (trust_checks trust.now (option_copied principal.entry) (Some opened.now.token) (Some (view opened.now.header)) (Some (view opened.now.payload))) }
 {
     let keys = keys_for(trust.issuers.as_slice(), principal, &opened.payload)?;
     verify(&opened.token, &opened.header, keys)?;
-    if !is_for(&opened.payload, trust.audience.as_str()) {
+    if !has_name(audience, trust.audience.as_str()) {
         return Err(refused(Code::InvalidAudience, Spot::Aud));
     }
     Ok(())
@@ -101,12 +108,7 @@ fn issuer_in<'a>(issuers: &'a [Issuer], payload: &Value) -> Option<&'a Issuer>
 fn issuer_named<'a>(iss: &str, issuers: &'a [Issuer]) -> Option<&'a Issuer>
     ensures { option_map (λ issuer. issuer.now) result ≡ issuer_named iss.now issuers.now }
 {
-    for issuer in issuers {
-        if issuer.iss.as_str() == iss {
-            return Some(issuer);
-        }
-    }
-    None
+    issuers.iter().find(|issuer| issuer.iss.as_str() == iss)
 }
 
 /// Whether the principal is the payload's issuer.
@@ -116,5 +118,5 @@ fn speaks_for(principal: Option<&Text>, payload: &Value) -> bool
     let Some(name) = principal else {
         return false;
     };
-    says(payload, "iss", name.as_str())
+    has_text(payload, "iss", name.as_str())
 }

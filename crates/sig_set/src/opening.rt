@@ -7,7 +7,7 @@ ghost use Rattle.sig_json.specs.Json.{json_of};
 ghost use Rattle.sig_set.specs.Checks.{outcome, passed};
 ghost use Rattle.sig_set.specs.Judgement.{form_checks, header_checks, header_in, payload_checks, payload_in, text_checks, token_in};
 
-use crate::header::says_token;
+use crate::header::has_token_type;
 use crate::refusal::refused;
 use crate::values::value_of;
 use crate::{Code, Refusal, Spot};
@@ -70,7 +70,7 @@ fn header_from(alloc: Global, bytes: &[u8]) -> Result<Value, Refusal>
     if !header.is_object() {
         return Err(refused(Code::InvalidRequest, Spot::Header));
     }
-    if !says_token(&header) {
+    if !has_token_type(&header) {
         return Err(refused(Code::InvalidRequest, Spot::Typ));
     }
     if present(&header, "crit") {

@@ -5,7 +5,7 @@ ghost use Rattle.sig_set.specs.Checks.{unless_refused};
 ghost use Rattle.sig_set.specs.Judgement.{claims_of};
 ghost use Rattle.sig_set.specs.Reading.{claims_read, reading_checks};
 
-use crate::audience::has_audience;
+use crate::audience::audience;
 use crate::content::content;
 use crate::opening::open;
 use crate::refusal::refused;
@@ -41,8 +41,9 @@ fn spoken(alloc: Global, bytes: &[u8]) -> Result<Claims, Refusal>
     ensures { Answers Refusal.Memory result (unless_refused (first_failing (reading_checks bytes.now)) (claims_of bytes.now)) }
 {
     let opened = open(alloc, bytes)?;
-    if !has_audience(&opened.payload) {
+    let audience = audience(alloc, &opened.payload)?;
+    if audience.is_none() {
         return Err(refused(Code::InvalidAudience, Spot::Aud));
     }
-    content(alloc, None, &opened.payload)
+    content(alloc, None, &opened.payload, audience)
 }

@@ -21,7 +21,7 @@ pub fn value_of(alloc: Global, bytes: &[u8]) -> Result<Option<Value>, Memory>
 }
 
 /// Whether the member is this text.
-pub fn says(value: &Value, name: &str, wanted: &str) -> bool
+pub fn has_text(value: &Value, name: &str, wanted: &str) -> bool
     ensures { result ≡ spec.is_text wanted.now (text_member name.now (view value.now)) }
 {
     match text_of(value, name) {

@@ -14,8 +14,8 @@ returns-in_err-opened c =
     let p = err_from_is_err_and c.from_residual.result c.from_residual.ensures.1 in
     first_refused (form_checks bytes) (spoken_checks (payload_in (token_in bytes))) (claims_of bytes) c.in_err-opened.field-0.0 c.from_residual.result (rw p.2 at p.1) c.in_err-opened.ensures.checks
 
-pub returns-then-not-has_audience : goal.returns-then-not-has_audience
-returns-then-not-has_audience c =
+pub returns-then-is_none : goal.returns-then-is_none
+returns-then-is_none c =
     let bytes = c.args.bytes.now in
     let missing : is_some (audience_in (Some (view c.in_ok-opened.opened.payload))) ≡ false = search rules in
     audience_refused (form_checks bytes) (payload_in (token_in bytes)) (view c.in_ok-opened.opened.payload) (Err c.refused.result) c.in_ok-opened.ensures.payload c.in_ok-opened.ensures.checks missing (ap Err c.refused.ensures)
