@@ -1,4 +1,4 @@
--- What an event makes of a row of the session table (this product's own).
+-- What an event makes of a row of the session table (defined here).
 use Rattle.std.specs.Prelude.{ℕ, List, Bool, true, false, Option, Some, None}
 use Rattle.sig_json.specs.Checks.{or_else}
 use Rattle.sig_caep.specs.declared.change.Change.{Change}
@@ -49,7 +49,7 @@ presented session.Unseen = session.Live
 presented session.Live = session.Live
 presented session.Revoked = session.Revoked
 
--- a new or renewed credential ends the wish for one; a revoked or deleted one makes what was read of it old
+-- a new or renewed credential is no longer one to be reset; a revoked or deleted one makes what was read of it old
 abbrev pub after_credential : Change → State → State
 after_credential Create s = with_reset false s
 after_credential Update s = with_reset false s

@@ -1,5 +1,5 @@
--- The session table: rows in order of first mention, as the effects of claims leave them (this product's own).
-use Rattle.std.specs.Prelude.{ℕ, List, [], ◌∷◌, ◌++◌, ◌&&◌, Bool, true, false, not, Option, None, map, if◌then◌else◌}
+-- The session table: rows in order of first mention, as the effects of claims leave them (defined here).
+use Rattle.std.specs.Prelude.{ℕ, List, [], ◌∷◌, ◌++◌, ◌&&◌, Bool, true, false, not, Option, None, fold, map, if◌then◌else◌}
 use Rattle.std.specs.List.{list_any}
 use Rattle.sig_subject.specs.declared.subject.Subject.{Subject}
 use Rattle.sig_subject.specs.Matching.{is_covering, is_identical}
@@ -71,8 +71,7 @@ after_event subject rows e = if has_effect e then map (changed_where_covered sub
 
 -- after events, one after the other
 abbrev pub after_events : Subject → List Event → List Row → List Row
-after_events subject [] rows = rows
-after_events subject (e ∷ es) rows = after_events subject es (after_event subject rows e)
+after_events subject events rows = fold (after_event subject) rows events
 
 -- what claims make of the rows
 abbrev pub effect : Claims → List Row → List Row

@@ -1,5 +1,5 @@
--- What the session table says of a subject (this product's own).
-use Rattle.std.specs.Prelude.{◌&&◌, List, [], ◌∷◌, Bool, true, false, not, Option, Some, None, is_some, filter, if◌then◌else◌}
+-- What the session table says of a subject (defined here).
+use Rattle.std.specs.Prelude.{◌&&◌, List, Bool, true, false, not, Option, Some, None, is_some, filter, find, if◌then◌else◌}
 use Rattle.std.specs.List.{list_any}
 use Rattle.sig_subject.specs.declared.subject.Subject.{Subject}
 use Rattle.sig_subject.specs.Matching.{is_covering, is_identical}
@@ -60,8 +60,7 @@ covering subject rows = filter (λ (r : Row). is_covering r.subject subject) row
 
 -- the row that is identical to the subject
 abbrev pub row_of : Subject → List Row → Option Row
-row_of subject [] = None
-row_of subject (r ∷ rows) = if is_identical r.subject subject then Some r else row_of subject rows
+row_of subject rows = find (λ (r : Row). is_identical r.subject subject) rows
 
 -- revoked where one of the rows is, else live where one is
 abbrev pub session_among : List Row → Session

@@ -1,5 +1,5 @@
 -- What all events of a token make of one row.
-use Rattle.std.specs.Prelude.{ℕ, List, [], ◌∷◌, ◌++◌, Option, None, if◌then◌else◌}
+use Rattle.std.specs.Prelude.{ℕ, List, [], ◌∷◌, ◌++◌, Option, None, fold, if◌then◌else◌}
 use Rattle.sig_json.specs.Checks.{or_else}
 use Rattle.sig_subject.specs.declared.subject.Subject.{Subject}
 use Rattle.sig_subject.specs.Matching.{is_covering}
@@ -17,8 +17,7 @@ last_told (e ∷ es) = or_else (last_told es) (told e)
 
 -- the state after the events, one after the other
 abbrev pub states_after : List Event → State → State
-states_after [] s = s
-states_after (e ∷ es) s = states_after es (state_after e s)
+states_after events s = fold (λ s e. state_after e s) s events
 
 -- a row after the events
 abbrev pub changed_by_all : List Event → Row → Row

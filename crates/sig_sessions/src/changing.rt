@@ -69,5 +69,6 @@ fn push_within<T: Drop>(list: &mut Vec<T>, item: T)
     requires { vec_len list.old < vec_capacity list.old }
     ensures { list.new.items ≡ list.old.items ++ item ∷ [] }
 {
+    // There is room, so no memory is asked for, and the push can't be refused.
     let _ = list.push(item);
 }

@@ -120,7 +120,7 @@ fn after_risc(event: &RiscEvent, state: State) -> State
     }
 }
 
-// A new or renewed credential ends the wish for one; a revoked or deleted one makes what was read of it old.
+// A new or renewed credential is no longer one to be reset; a revoked or deleted one makes what was read of it old.
 fn after_credential(change: Change, state: State) -> State
     ensures { result ≡ spec.after_credential change state }
 {

@@ -1,4 +1,4 @@
-//! The session table: what an application may conclude from the events of the tokens that it took (this product's own).
+//! The session table: what an application may conclude from the events of the tokens that it took (defined here).
 //!
 //! It stands on `sig_event` for claims and on `sig_subject` for whom they are about. A row is a subject and what is known
 //! of it, in order of first mention (`specs/Table`); an event changes the rows that its subject covers by a table

@@ -60,12 +60,7 @@ pub(crate) fn verdict_of(rows: &[Row], subject: &Subject) -> Verdict
 fn row_of<'a>(rows: &'a [Row], subject: &Subject) -> Option<&'a Row>
     ensures { option_copied result ≡ spec.row_of subject.now rows.now }
 {
-    for row in rows {
-        if identical(&row.subject, subject) {
-            return Some(row);
-        }
-    }
-    None
+    rows.iter().find(|row| identical(&row.subject, subject))
 }
 
 // That of the subject's own row, else that among the rows that cover it.
