@@ -3,7 +3,7 @@
 ghost use Rattle.std.specs.Prelude.{◌≡◌, IfOk, option_map};
 ghost use Rattle.serde_json.specs.View.{view};
 ghost use Rattle.sig_json.specs.Json.{json_of};
-ghost use Rattle.sig_rxnode.specs.Printed.{yes_or_no};
+ghost use Rattle.sig_receiver.specs.Printed.{yes_or_no};
 ghost use Rattle.sig_cases.specs.Told as spec;
 
 use base64::DecodeAllocError;

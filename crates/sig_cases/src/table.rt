@@ -6,7 +6,7 @@ use serde_json::{Map, json};
 use sig_event::{Claims, Event, EventFault};
 use sig_json::limits::LAST_NUMBER;
 use sig_json::{Bytes, Items, Listed, Memory, Text, Value};
-use sig_rxnode::row_line;
+use sig_receiver::row_line;
 use sig_sessions::{Table, Verdict};
 use sig_set::Spot;
 use sig_subject::Subject;
