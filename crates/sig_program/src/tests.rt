@@ -186,6 +186,7 @@ fn the_edge_gives_and_takes_what_readers_and_writers_do(rt: HostRuntime) -> Resu
 }
 
 // A reader and a writer that the system interrupts twice before each call.
+#[derive(Drop)]
 struct Interrupted {
     calls: u8,
 }
