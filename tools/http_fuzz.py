@@ -2,10 +2,11 @@
 
     python3 tools/http_fuzz.py PROGRAM [COUNT [SEED]]
 
-PROGRAM answers the lines `request <size> <bytes>` and `response <size> <bytes>`, as `sig_cases` does. The messages begin
-as those of `tools/http_captured.json` and of RFC 9112; a few bytes of each are changed, lines are repeated, taken out or
-swapped, and numbers are made larger. Prints how often each answer came and the first lines that differ; the status is 1
-where one does.
+PROGRAM answers the lines `request <size> <bytes>` and `response <size> <bytes>` by the readers of `sig_http`: what is
+read of the bytes, which stand as base64url, of a source that gives at most so many at a time. No program here has these
+lines yet. The messages begin as those of `tools/http_captured.json` and of RFC 9112; a few bytes of each are changed,
+lines are repeated, taken out or swapped, and numbers are made larger. Prints how often each answer came and the first
+lines that differ; the status is 1 where one does.
 """
 
 import base64

@@ -1,7 +1,7 @@
 """A plain reader of HTTP/1 messages, by the rules of docs/FORMATS.md and RFC 9112 alone.
 
-`answer(kind, data)` gives what the line `request` or `response` of the cases prints for the bytes of a whole source. It
-works on whole bytes and by regular expressions, and shares nothing with the proved reader, which works byte by byte.
+`answer(kind, data)` gives what a line `request` or `response` is answered for the bytes of a whole source. It works on
+whole bytes and by regular expressions, and shares nothing with the proved reader, which works byte by byte.
 """
 
 import base64
