@@ -1,165 +1,74 @@
-//! Subjects, events and tokens of the tests.
+//! Each call that allocates, once: a change is made ready and taken in, rows come by pages, and a table is copied.
 
-mod effects;
-mod verdicts;
-
-use crate::{Row, Table};
-use sig_caep::{CaepEvent, CaepKind, Change, Common, Compliance};
+use crate::{Session, Table};
 use sig_event::{Claims, Event};
-use sig_json::{Items, Listed, Memory, Text};
+use sig_json::{Items, Memory, Text};
 use sig_risc::RiscEvent;
-use sig_subject::{Member, Plain, Simple, Subject};
+use sig_subject::{Plain, Simple, Subject};
 use std::alloc::Global;
-
-fn opaque(alloc: Global, id: &str) -> Result<Simple, Memory> {
-    Ok(Simple::Plain(Plain::Opaque {
-        id: Text::of(alloc, id)?,
-    }))
-}
+use std::test::Fail;
 
 fn user(alloc: Global, id: &str) -> Result<Subject, Memory> {
-    Ok(Subject::Simple(opaque(alloc, id)?))
+    Ok(Subject::Simple(Simple::Plain(Plain::Opaque {
+        id: Text::of(alloc, id)?,
+    })))
 }
 
-// A part of this name, of an opaque identifier.
-fn part(alloc: Global, name: &str, id: &str) -> Result<Member, Memory> {
-    Ok(Member {
-        name: Text::of(alloc, name)?,
-        simple: opaque(alloc, id)?,
-    })
-}
-
-// A subject of one part.
-fn whole(alloc: Global, only: Member) -> Result<Subject, Memory> {
-    let mut members = Vec::new(alloc);
-    members.push(only)?;
-    Ok(Subject::Complex {
-        members: Items::of(members),
-    })
-}
-
-// A subject of two parts.
-fn joint(alloc: Global, first: Member, second: Member) -> Result<Subject, Memory> {
-    let mut members = Vec::new(alloc);
-    members.push(first)?;
-    members.push(second)?;
-    Ok(Subject::Complex {
-        members: Items::of(members),
-    })
-}
-
-// A session of a user.
-fn session(alloc: Global, id: &str, user: &str) -> Result<Subject, Memory> {
-    let first = part(alloc, "session", id)?;
-    joint(alloc, first, part(alloc, "user", user)?)
-}
-
-fn caep(kind: CaepKind) -> Event {
-    Event::Caep(CaepEvent {
-        common: Common {
-            event_timestamp: None,
-            initiating_entity: None,
-            reason_admin: None,
-            reason_user: None,
-        },
-        kind,
-    })
-}
-
-fn established() -> Event {
-    caep(CaepKind::SessionEstablished {
-        acr: None,
-        amr: None,
-        ext_id: None,
-        fp_ua: None,
-    })
-}
-
-fn presented() -> Event {
-    caep(CaepKind::SessionPresented {
-        ext_id: None,
-        fp_ua: None,
-    })
-}
-
-fn claims_changed(alloc: Global) -> Result<Event, Memory> {
-    Ok(caep(CaepKind::TokenClaimsChange {
-        claims: Text::of(alloc, r#"{"role":"x"}"#)?,
-    }))
-}
-
-fn credential(alloc: Global, change_type: Change) -> Result<Event, Memory> {
-    Ok(caep(CaepKind::CredentialChange {
-        credential_type: Text::of(alloc, "password")?,
-        change_type,
-    }))
-}
-
-fn level(alloc: Global, text: &str) -> Result<Event, Memory> {
-    Ok(caep(CaepKind::AssuranceLevelChange {
-        namespace: None,
-        current_level: Text::of(alloc, text)?,
-        change_direction: None,
-    }))
-}
-
-fn device(current_status: Compliance) -> Event {
-    caep(CaepKind::DeviceComplianceChange {
-        previous_status: Compliance::Compliant,
-        current_status,
-    })
-}
-
-fn compromised(alloc: Global) -> Result<Event, Memory> {
-    Ok(Event::Risc(RiscEvent::CredentialCompromise {
-        credential_type: Text::of(alloc, "password")?,
-    }))
-}
-
-fn one(alloc: Global, event: Event) -> Result<Items<Event>, Memory> {
+// Claims that the sessions of a user were revoked.
+fn revoked(alloc: Global, id: &str) -> Result<Claims, Memory> {
     let mut events = Vec::new(alloc);
-    events.push(event)?;
-    Ok(Items::of(events))
-}
-
-fn two(alloc: Global, first: Event, second: Event) -> Result<Items<Event>, Memory> {
-    let mut events = Vec::new(alloc);
-    events.push(first)?;
-    events.push(second)?;
-    Ok(Items::of(events))
-}
-
-fn take(
-    alloc: Global,
-    table: &mut Table,
-    subject: Subject,
-    events: Items<Event>,
-) -> Result<(), Memory> {
-    let claims = Claims {
+    events.push(Event::Risc(RiscEvent::SessionsRevoked))?;
+    Ok(Claims {
         iss: Text::of(alloc, "https://idp.example")?,
         jti: Text::of(alloc, "1")?,
         iat: 1,
         aud: Items::of(Vec::new(alloc)),
-        subject,
-        events,
-    };
+        subject: user(alloc, id)?,
+        events: Items::of(events),
+    })
+}
+
+fn take(alloc: Global, table: &mut Table, id: &str) -> Result<(), Memory> {
+    let claims = revoked(alloc, id)?;
     let change = table.prepare(&claims)?;
     table.commit(change);
     Ok(())
 }
 
-// Whether the row knows this of its session, account, device and opting; of its reset and its staleness.
-fn knows(row: &Row, texts: [&str; 4], reset: bool, stale: bool) -> bool {
-    row.session.as_str() == texts[0]
-        && row.account.as_str() == texts[1]
-        && row.device.as_str() == texts[2]
-        && row.opt.as_str() == texts[3]
-        && row.reset == reset
-        && row.stale == stale
+fn two_users(alloc: Global) -> Result<Table, Memory> {
+    let mut table = Table::new(alloc);
+    take(alloc, &mut table, "u")?;
+    take(alloc, &mut table, "v")?;
+    Ok(table)
 }
 
-const NOTHING: [&str; 4] = ["unseen", "unseen", "unseen", "unseen"];
+#[test]
+fn a_revoked_user_has_a_row(rt: HostRuntime) -> Result<(), Fail> {
+    let mut table = Table::new(rt.alloc());
+    take(rt.alloc(), &mut table, "u")?;
+    let verdict = table.verdict(&user(rt.alloc(), "u")?);
+    assert!(rt; verdict.known && verdict.session == Session::Revoked);
+    Ok(())
+}
 
-const REVOKED: [&str; 4] = ["revoked", "unseen", "unseen", "unseen"];
+// How many rows the page has.
+fn page_size(table: &Table, from: u64, most: u64) -> Result<usize, Memory> {
+    Ok(table.rows(from, most)?.as_slice().len())
+}
 
-const LIVE: [&str; 4] = ["live", "unseen", "unseen", "unseen"];
+#[test]
+fn rows_come_by_pages(rt: HostRuntime) -> Result<(), Fail> {
+    let table = two_users(rt.alloc())?;
+    assert!(rt; page_size(&table, 0, 1)? == 1);
+    assert!(rt; page_size(&table, 0, 5)? == 2);
+    assert!(rt; page_size(&table, u64::MAX, u64::MAX)? == 0);
+    Ok(())
+}
+
+#[test]
+fn a_copy_has_the_same_rows(rt: HostRuntime) -> Result<(), Fail> {
+    let table = two_users(rt.alloc())?;
+    let copy = table.copy()?;
+    assert!(rt; copy.has_same_rows(&table));
+    Ok(())
+}
