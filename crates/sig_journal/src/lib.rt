@@ -33,6 +33,8 @@ mod loading;
 mod making;
 mod reading;
 mod records;
+#[cfg(test)]
+mod tests;
 
 pub use fault::LoadFault;
 pub use framed::{Framed, frame};
