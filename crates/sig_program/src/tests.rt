@@ -67,35 +67,42 @@ fn ends_in(bytes: &[u8], count: usize) -> usize {
 #[test]
 fn a_failed_input_ends_after_the_lines_that_were_read(rt: HostRuntime) -> Result<(), Fail> {
     let words = texts(rt.alloc(), &["fold", ISS, AUD, KEY])?;
-    let whole = INPUT.as_bytes();
     for piece in [1usize, 7, 100] {
-        for call in 0..40u64 {
-            let read = piece.saturating_mul(usize::try_from(call)?);
-            let mut source = MemSource::in_pieces(
-                Bytes::of(rt.alloc(), whole)?,
-                piece,
-                at(rt.alloc(), call)?,
-            );
-            let mut sink = MemSink::new(rt.alloc(), never(rt.alloc()));
-            let status = run(rt.alloc(), words.as_slice(), &mut source, &mut sink);
-            if status == 0 {
-                assert!(rt; read > whole.len(), "piece {piece} call {call}");
+        for call in 0..40usize {
+            let failed = take_of(rt.alloc(), words.as_slice(), piece, call)?;
+            assert!(rt; failed < 2, "piece {piece} call {call}");
+            if failed == 0 {
                 break;
             }
-            assert_eq!(rt; status, 3, "piece {piece} call {call}");
-            let mut wanted = Bytes::new(rt.alloc());
-            for verdict in VERDICTS.iter().take(lines_before(read, piece)) {
-                wanted.add(verdict.as_bytes())?;
-            }
-            wanted.add(b"signals: input failed\n")?;
-            assert_eq!(rt;
-                sink.bytes(),
-                wanted.as_slice(),
-                "piece {piece} call {call}"
-            );
         }
     }
     Ok(())
+}
+
+// Runs over a source that fails at a call: 0 where it had given everything before, 1 where the run ended with status 3
+// after the lines that were read, and 2 otherwise.
+fn take_of(alloc: Global, words: &[String], piece: usize, call: usize) -> Result<u8, Memory> {
+    let read = piece.saturating_mul(call);
+    let wanted = failed_text(alloc, lines_before(read, piece))?;
+    let input = Bytes::of(alloc, INPUT.as_bytes())?;
+    let mut source = MemSource::in_pieces(input, piece, at(alloc, call as u64)?);
+    let mut sink = MemSink::new(alloc, never(alloc));
+    let status = run(alloc, words, &mut source, &mut sink);
+    Ok(match status {
+        0 if read > INPUT.len() => 0,
+        3 if sink.bytes() == wanted.as_slice() => 1,
+        _ => 2,
+    })
+}
+
+// What a run prints whose input fails after so many lines.
+fn failed_text(alloc: Global, lines: usize) -> Result<Bytes, Memory> {
+    let mut text = Bytes::new(alloc);
+    for verdict in VERDICTS.iter().take(lines) {
+        text.add(verdict.as_bytes())?;
+    }
+    text.add(b"signals: input failed\n")?;
+    Ok(text)
 }
 
 // How many lines are known where the input failed and so many bytes were asked for in such pieces before: those that end
