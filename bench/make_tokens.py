@@ -2,7 +2,10 @@
 """Makes signed tokens for the benchmark of `fold`, by a seed.
 
 `make_tokens.py COUNT SUBJECTS SEED` prints COUNT tokens of about 640 bytes, one a line. Each is about one of SUBJECTS
-subjects and of one of twelve event types of CAEP and RISC, both drawn by the seed. The same words give the same bytes.
+subjects and of one of twelve event types of CAEP and RISC, both drawn by the seed. With `new` for SUBJECTS every fourth
+token is about a subject that no earlier one was about, and the others about one of the last 100 of these; a fifth of the
+subjects are complex, with a user of their own, and a device and a tenant that others share. The same words give
+the same bytes.
 """
 import base64
 import hashlib
@@ -15,6 +18,7 @@ KEY = b"0123456789abcdef0123456789abcdef"
 CAEP = "https://schemas.openid.net/secevent/caep/event-type/"
 RISC = "https://schemas.openid.net/secevent/risc/event-type/"
 SIZE = 640
+LAST_NEW = 100
 
 EVENTS = [
     (CAEP + "session-revoked", {"initiating_entity": "policy", "reason_admin": "landspeed"}),
@@ -48,6 +52,35 @@ def signed(payload):
     return front + "." + part(hmac.new(KEY, front.encode(), hashlib.sha256).digest())
 
 
+def user(number):
+    return {"format": "iss_sub", "iss": "https://idp.example/", "sub": f"user-{number:08d}"}
+
+
+def opaque(name):
+    return {"format": "opaque", "id": name}
+
+
+def new_subject(number):
+    """The subject of this number: each fifth one is complex, and shares all parts but its user."""
+    if number % 5 != 4:
+        return user(number)
+    return {
+        "format": "complex",
+        "device": opaque(f"device-{number // 50:06d}"),
+        "tenant": opaque("tenant-1"),
+        "user": user(number),
+    }
+
+
+def subject(number, subjects, rng):
+    if subjects != "new":
+        return user(rng.randrange(int(subjects)))
+    newest = (number - 1) // 4
+    if number % 4 == 1:
+        return new_subject(newest)
+    return new_subject(rng.randrange(max(newest - LAST_NEW, 0), newest + 1))
+
+
 def token(number, subjects, rng):
     uri, payload = EVENTS[rng.randrange(len(EVENTS))]
     claims = {
@@ -56,7 +89,7 @@ def token(number, subjects, rng):
         "iat": 1700000000 + number,
         "iss": "https://idp.example",
         "jti": f"6ba7b810-9dad-11d1-80b4-00c04fd430c8.acme-1.{number}",
-        "sub_id": {"format": "iss_sub", "iss": "https://idp.example/", "sub": f"user-{rng.randrange(subjects):08d}"},
+        "sub_id": subject(number, subjects, rng),
         "txn": "",
     }
     missing = (SIZE - len(signed(claims))) * 3 // 4
@@ -66,8 +99,8 @@ def token(number, subjects, rng):
 
 def main():
     if len(sys.argv) != 4:
-        sys.exit("usage: make_tokens.py COUNT SUBJECTS SEED")
-    count, subjects, seed = (int(word) for word in sys.argv[1:])
+        sys.exit("usage: make_tokens.py COUNT SUBJECTS|new SEED")
+    count, subjects, seed = int(sys.argv[1]), sys.argv[2], int(sys.argv[3])
     rng = random.Random(seed)
     for number in range(1, count + 1):
         print(token(number, subjects, rng))

@@ -2,7 +2,8 @@
 """Answers the lines of `sig_cases` by the tables of the standards and of docs/FORMATS.md, and makes its stored run.
 
 `cases_expected.py answer < lines` prints the answers. `cases_expected.py write` makes crates/sig_cases/stdin and stdout of
-the files tools/cases/*.txt, and `cases_expected.py check` says whether they stand so.
+the files tools/cases/*.txt, of the rows of `walk_cases.py` and of the HTTP messages of `http_cases.py`, and
+`cases_expected.py check` says whether they stand so.
 
 In these files a line that begins with `#` says what the next cases show; one that begins with `> ` is the answer to the
 case before it, given by a standard or worked out by hand; any other line is a case. `<%..%>` stands for the text of a
@@ -15,7 +16,10 @@ import pathlib
 import re
 import sys
 
+import http_cases
+import http_reader
 import sign_tokens
+import walk_cases
 from cases import subjects, table, tokens
 from cases.events import check_event
 from cases.values import BadCase, Fault, NotJson
@@ -23,7 +27,7 @@ from cases.values import dump, has_fraction, key_of, mac, member, optional, read
 
 ROOT = pathlib.Path(__file__).resolve().parent.parent
 RUN = ROOT / "crates" / "sig_cases"
-PARTS = ["base", "subjects", "events", "tokens", "standards", "effects", "verdicts", "lines"]
+PARTS = ["base", "subjects", "events", "tokens", "standards", "effects", "verdicts", "walk", "messages", "http", "lines"]
 LINE_BYTES = 65536
 LAST_NUMBER = 2**62
 
@@ -37,6 +41,12 @@ def read_case(data):
         return read(data)
     except NotJson:
         raise BadCase from None
+
+
+def number(word):
+    if not re.fullmatch(rb"[1-9][0-9]*", word) or int(word) > LAST_NUMBER:
+        raise BadCase
+    return int(word)
 
 
 def subject_in(value):
@@ -68,6 +78,8 @@ class Answers:
             b"row": self.row,
             b"verdict": self.verdict,
             b"clear": self.clear,
+            b"request": lambda rest: self.message("request", rest),
+            b"response": lambda rest: self.message("response", rest),
         }
 
     def answer(self, line):
@@ -161,9 +173,7 @@ class Answers:
         return f"rows {len(self.rows)}"
 
     def row(self, rest):
-        if not re.fullmatch(rb"[1-9][0-9]*", rest) or int(rest) > LAST_NUMBER:
-            raise BadCase
-        place = int(rest)
+        place = number(rest)
         return table.row_text(place, self.rows[place - 1]) if place <= len(self.rows) else "none"
 
     def verdict(self, rest):
@@ -174,6 +184,11 @@ class Answers:
             raise BadCase
         self.rows = []
         return "ok"
+
+    def message(self, kind, rest):
+        size, _, data = rest.partition(b" ")
+        number(size)
+        return http_reader.answer(kind, word_bytes(data))
 
 
 def lines_of(data):
@@ -208,11 +223,19 @@ def spelled(line, known):
     return b"".join(pieces)
 
 
+def part_lines(part):
+    if part == "http":
+        return http_cases.lines()
+    if part == "walk":
+        return walk_cases.lines()
+    return (ROOT / "tools" / "cases" / (part + ".txt")).read_bytes().splitlines()
+
+
 def made():
     """The input, its answers, and where an answer isn't the one that stands by hand."""
     known, lines, by_hand = names(), [], {}
     for part in PARTS:
-        for line in (ROOT / "tools" / "cases" / (part + ".txt")).read_bytes().splitlines():
+        for line in part_lines(part):
             if line.startswith(b"> "):
                 by_hand[len(lines)] = spelled(line[2:], known).decode()
             else:

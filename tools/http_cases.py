@@ -1,9 +1,9 @@
-"""Writes the cases of HTTP messages, and what each is answered.
+"""The cases of HTTP messages, of which `tools/cases_expected.py` makes lines of the stored run of `sig_cases`.
 
-    python3 tools/http_cases.py LINES ANSWERS
-
-Each case names its answer by hand, from RFC 9112 and docs/FORMATS.md; `tools/http_reader.py` has to give the same, and the
-object that is got is its. Each message is given whole, byte by byte and, where it is short, cut at every place.
+Each row names its answer by hand, from RFC 9112 and docs/FORMATS.md; `tools/http_reader.py` has to give the same, and the
+object that is got is its. Each message is given whole and byte by byte, a short one also in pieces of each size, so that
+it is cut at every place; each fault comes at the byte that decides it; three messages end at every place. A message that
+no line has room for is left out: bodies at their limits are tests of `sig_http`.
 """
 
 import base64
@@ -13,7 +13,8 @@ import sys
 
 from http_reader import answer
 
-BODY, RESPONSE_BODY, HEAD = 65536, 524288, 16384
+BODY, RESPONSE_BODY, HEAD, LINE_BYTES = 65536, 524288, 16384, 65536
+EACH_PLACE = 48
 
 
 def request(head, body=b""):
@@ -95,9 +96,12 @@ ROWS = [
     ("65 fields", "request", post(*[b"f: 1"] * 65), "head-long"),
     ("a head of 16,384 bytes", "request", post(FILLED), "got"),
     ("a head of 16,385 bytes", "request", post(FILLED + b"v"), "head-long"),
+    ("a body of 65,536 bytes that isn't there", "request", post(b"content-length: 65536"), "cut"),
     ("a body of 65,536 bytes", "request", post(b"content-length: 65536", body=b"b" * BODY), "got"),
     ("a body of 65,537 bytes, by its head alone", "request", post(b"content-length: 65537"), "body-long"),
     ("chunks of 65,536 bytes", "request", post(CHUNKED, body=b"8000\r\n" + b"b" * 32768 + b"\r\n8000\r\n" + b"c" * 32768 + b"\r\n0\r\n\r\n"), "got"),
+    ("a chunk of 65,537 bytes, by its line", "request", post(CHUNKED, body=b"10001\r\n"), "body-long"),
+    ("a chunk of 65,536 bytes that isn't there", "request", post(CHUNKED, body=b"10000\r\n"), "cut"),
     ("chunks of 65,537 bytes, by the chunk line", "request", post(CHUNKED, body=b"8000\r\n" + b"b" * 32768 + b"\r\n8001\r\n"), "body-long"),
     ("section 4: a response, and what follows", "response", reply(b"content-length: 3", body=b"abcHTTP"), "got"),
     ("section 4: no phrase", "response", b"HTTP/1.1 200\r\ncontent-length: 0\r\n\r\n", "got"),
@@ -109,9 +113,47 @@ ROWS = [
     ("a response like any other", "response", reply(b"content-length: 0", status=b"103 Early Hints"), "got"),
     ("two digits", "response", b"HTTP/1.1 20 OK\r\n\r\n", "head"),
     ("no response", "response", b"", "cut"),
+    ("a body of 524,288 bytes that isn't there", "response", reply(b"content-length: 524288"), "cut"),
+    ("a chunk of 524,289 bytes, by its line", "response", reply(CHUNKED, body=b"80001\r\n"), "body-long"),
+    ("a chunk of 524,288 bytes that isn't there", "response", reply(CHUNKED, body=b"80000\r\n"), "cut"),
     ("a body of 524,289 bytes, by its head alone", "response", reply(b"content-length: 524289"), "body-long"),
     ("a body to the end of 524,288 bytes", "response", reply(body=b"e" * RESPONSE_BODY), "got"),
     ("a body to the end of 524,289 bytes", "response", reply(body=b"e" * (RESPONSE_BODY + 1)), "body-long"),
+]
+
+# Each row: what it shows, the kind, the answer, and the bytes of which the last decides it: without that byte they are cut,
+# and with further ones the answer stays.
+DECIDING = [
+    ("the bytes of a head section", "request", "head-long", post(FILLED + b"v")[: HEAD + 1]),
+    ("the bytes of empty lines before it", "request", "head-long", b"\r\n" * (HEAD // 2) + b"\r"),
+    ("its lines", "request", "head-long", b"GET / HTTP/1.1\r\n" + b"f: 1\r\n" * 65),
+    ("its lines after empty ones", "request", "head-long", b"\r\n\nGET / HTTP/1.1\n" + b"f:\n" * 65),
+    ("a version", "request", "head", b"GET / HTTP/2.0\r\n\r\n"),
+    ("a field", "request", "head", post(b"x : y")),
+    ("an expectation", "request", "expect", post(b"expect: x")),
+    ("a coding of the content", "request", "coding", post(b"content-encoding: br")),
+    ("a length", "request", "length", post(b"content-length: -1")),
+    ("a length over the limit", "request", "body-long", post(b"content-length: 65537")),
+    ("a chunk line that breaks the rule", "request", "length", post(CHUNKED, body=b"x\r\n")),
+    ("a second one", "request", "length", post(CHUNKED, body=b"1\r\na\r\n1 1\r\n")),
+    ("a chunk line without its end", "request", "length", post(CHUNKED, body=b"1;" + b"x" * 254)),
+    ("two bytes after a chunk", "request", "length", post(CHUNKED, body=b"1\r\nabc")),
+    ("the second of two bytes after a chunk", "request", "length", post(CHUNKED, body=b"1\r\na\r\r")),
+    ("a trailer section without its end", "request", "length", post(CHUNKED, body=b"0\r\n" + b"x" * 1024)),
+    ("a chunk over the limit", "request", "body-long", post(CHUNKED, body=b"1\r\na\r\n10000\r\n")),
+    ("the lines of a response's head", "response", "head-long", b"HTTP/1.1 200 OK\r\n" + b"f: 1\r\n" * 65),
+    ("a status", "response", "head", b"HTTP/1.1 2000 OK\r\n\r\n"),
+    ("a response's length", "response", "length", reply(b"content-length: 1", b"content-length: 2")),
+    ("a response's length over the limit", "response", "body-long", reply(b"content-length: 524289")),
+    ("a chunk line of a response", "response", "length", reply(CHUNKED, body=b"1\n")),
+    ("a chunk of a response over the limit", "response", "body-long", reply(CHUNKED, body=b"1\r\na\r\n80000\r\n")),
+]
+
+# Each row: what it shows, the kind, the bytes, and the answer's first word where there are none.
+ENDING = [
+    ("a request with a body", "request", post(b"host: a", b"content-length: 3", body=b"abc"), "end"),
+    ("a request in chunks", "request", post(CHUNKED, body=b"4;x\r\nWiki\r\n0\r\ny: z\r\n\r\n"), "end"),
+    ("a response with a body", "response", reply(b"content-length: 3", body=b"abc"), "cut"),
 ]
 
 
@@ -122,29 +164,38 @@ def captured():
 
 
 def sizes(data):
-    if len(data) > 400:
-        return (1000000, 4096, 1 if len(data) < 20000 else 1000)
-    return (1000000, *range(1, max(2, len(data))))
+    """How many bytes a call gives: the message whole, byte by byte, and with a first piece of each length."""
+    pieces = range(2, len(data)) if len(data) <= EACH_PLACE else [4096] if len(data) > 4096 else []
+    return (1000000, 1, *pieces)
 
 
 def spelled(data):
     return base64.urlsafe_b64encode(data).decode().rstrip("=") or "-"
 
 
-def main(lines, answers):
-    asked, told = [], []
+def checked(shows, kind, data, word):
+    """The reader of the other hand gives the answer that stands by hand."""
+    told = answer(kind, data).split(" ")[0]
+    if told != word:
+        sys.exit(f"{shows}: {told}, and not {word}")
+
+
+def lines():
+    """The lines, each after one that says what it shows."""
+    out = []
     for shows, kind, data, word in [*ROWS, *captured()]:
-        expected = answer(kind, data)
-        if expected.split(" ")[0] != word:
-            sys.exit(f"{shows}: {expected}")
-        asked.append(f"# {shows}")
-        for size in sizes(data):
-            asked.append(f"{kind} {size} {spelled(data)}")
-            told.append(f"{len(asked)} {expected}")
-    pathlib.Path(lines).write_text("\n".join(asked) + "\n")
-    pathlib.Path(answers).write_text("\n".join(told) + "\n")
-    print(f"{len(told)} lines")
-
-
-if __name__ == "__main__":
-    main(*sys.argv[1:])
+        checked(shows, kind, data, word)
+        told = [f"{kind} {size} {spelled(data)}" for size in sizes(data)]
+        if len(told[0]) <= LINE_BYTES:
+            out += [f"# {shows}", *told]
+    for shows, kind, word, data in DECIDING:
+        out.append(f"# the byte that decides: {shows}")
+        for bytes_of, wanted in ((data, word), (data[:-1], "cut"), (data + b"\r\nGET", word)):
+            checked(shows, kind, bytes_of, wanted)
+            out.append(f"{kind} 1 {spelled(bytes_of)}")
+    for shows, kind, data, first in ENDING:
+        out.append(f"# {shows}, which ends at every place")
+        for end in range(len(data)):
+            checked(f"{shows} at {end}", kind, data[:end], first if end == 0 else "cut")
+            out.append(f"{kind} 1000000 {spelled(data[:end])}")
+    return [line.encode() for line in out]

@@ -2,9 +2,9 @@
 
     python3 tools/http_fuzz.py PROGRAM [COUNT [SEED]]
 
-PROGRAM answers the lines `request <size> <bytes>` and `response <size> <bytes>` by the readers of `sig_http`: what is
-read of the bytes, which stand as base64url, of a source that gives at most so many at a time. No program here has these
-lines yet. The messages begin as those of `tools/http_captured.json` and of RFC 9112; a few bytes of each are changed,
+PROGRAM is the built program `sig_cases`, which answers the lines `request <size> <bytes>` and `response <size> <bytes>` by
+the readers of `sig_http`: what is read of the bytes, which stand as base64url, of a source that gives at most so many at a
+time. A message that no line has room for is drawn again. The messages begin as those of `tools/http_captured.json` and of RFC 9112; a few bytes of each are changed,
 lines are repeated, taken out or swapped, and numbers are made larger. Prints how often each answer came and the first
 lines that differ; the status is 1 where one does.
 """
@@ -20,6 +20,7 @@ import sys
 
 from http_reader import answer
 
+LINE_BYTES = 65536
 CAPTURED = pathlib.Path(__file__).with_name("http_captured.json")
 
 REQUESTS = [
@@ -120,10 +121,22 @@ def spelled(data):
     return base64.urlsafe_b64encode(data).decode().rstrip("=") or "-"
 
 
+def line_of(kind, size, data):
+    return f"{kind} {size} {spelled(data)}"
+
+
+def fitting(chance, pool):
+    """A case that a line has room for."""
+    while True:
+        found = case(chance, pool)
+        if len(line_of(*found)) <= LINE_BYTES:
+            return found
+
+
 def main(program, count=100000, seed=1):
     chance, pool = random.Random(int(seed)), seeds()
-    cases = [case(chance, pool) for _ in range(int(count))]
-    lines = "".join(f"{kind} {size} {spelled(data)}\n" for kind, size, data in cases)
+    cases = [fitting(chance, pool) for _ in range(int(count))]
+    lines = "".join(line_of(*found) + "\n" for found in cases)
     told = subprocess.run([program], input=lines.encode(), stdout=subprocess.PIPE, check=True).stdout.decode().splitlines()
     if len(told) != len(cases):
         sys.exit(f"{len(told)} answers to {len(cases)} lines")

@@ -169,6 +169,8 @@ def refusals():
         (BARE, "publish_id", ONE, '{"format":"opaque","id":"s-77","x":1}'),
     ]:
         stops("A publication that is unfit by one part ends the script.", publication(id, subject, events, name))
+    for length in [32, 33]:
+        stops(f"A script's clients are acme and zeta: a name of {length} letters, where a client's name has at most 32, ends the script.", f"create {'a' * length} {{}}")
     first = (CREATE, publication(ONE, opaque("s-77")))
     for id in [ONE, "1" * 32]:
         stops("A name that was used, in each of its spellings, ends the script.", publication(id, opaque("s-78")), 3, first, "1 made acme-1\n2 published 1\n2 token acme-1.1\n")
@@ -186,6 +188,8 @@ def refusals():
 def streams():
     case("A stream of another client isn't found.", ["replay"], [CREATE, "poll zeta acme-1 32"], 0, "1 made acme-1\n2 not-found\nrows 0 tokens 0\nowed acme-1 0\n")
     # the payload of a token about an identifier of 5,762 bytes has 6,001, which Python's `len` of the text says
+    case("A payload of 6,000 bytes, the most that there may be, is published.", ["replay"], [CREATE, publication(ONE, opaque("s" * 5761))], 0,
+         "1 made acme-1\n2 published 1\n2 token acme-1.1\nrows 0 tokens 0\nowed acme-1 1\n")
     case("A payload of 6,001 bytes is too long.", ["replay"], [CREATE, publication(ONE, opaque("s" * 5762))], 0, "1 made acme-1\n2 long 6001\nrows 0 tokens 0\nowed acme-1 0\n")
     case("A client has sixteen streams, in order of their numbers.", ["replay"], ["create zeta {}"] + [CREATE] * 17 + [publication(ONE, opaque("s-77"))], 0,
          "1 made zeta-1\n" + "".join(f"{n + 1} made acme-{n}\n" for n in range(1, 17)) + "18 too-many\n19 published 17\n"

@@ -1,9 +1,11 @@
-//! Measures the journal over real files: what the scripts under `bench/` run.
+//! Measures the journal over real files, and HTTP messages in memory: what the scripts under `bench/` run.
 //!
 //!     append <a> <b> <count> <bytes>   appends so many records of so many bytes to a store, which it makes where there is none
 //!     bare <file> <count> <bytes>      two writes and two syncs a record, without a journal
 //!     fill <a> <b> <count> <bytes>     makes a store with so many records, synced once
 //!     load <a> <b>                     loads a store, and prints how many records it has or where it is damaged
+//!     push <count>                     reads a push request and writes its response, so often
+//!     chunks <count> <bytes>           reads a response in so many chunks of so many bytes
 //!
 //! Left out: time, which the scripts take.
 #![tactic(auto)]
@@ -11,9 +13,11 @@
 ghost use Rattle.std.specs.Prelude.{◌≤◌, IfOk};
 
 mod bare;
+mod messages;
 mod store;
 
 use crate::bare::write_bare;
+use crate::messages::{exchange_pushes, read_chunks};
 use crate::store::{append_records, count_records, fill_store};
 use std::process::ExitCode;
 use std::{env, io};
@@ -31,6 +35,8 @@ pub enum Stopped {
     Damaged { file: u8, at: u64 },
     /// The journal would end past 2^62.
     Full,
+    /// A message can't be read or written.
+    Message,
     /// Out of memory.
     Memory,
 }
@@ -40,7 +46,10 @@ fn main(rt: HostRuntime) -> ExitCode {
         return ExitCode::FAILURE;
     };
     let told = match run(&rt, words.as_slice()) {
-        Ok(records) => println!(rt; "records {records}"),
+        Ok(number) => {
+            let unit = unit(words.as_slice());
+            println!(rt; "{unit} {number}")
+        }
         Err(Stopped::Damaged { file, at }) => println!(rt; "damaged {file} {at}"),
         Err(stopped) => println!(rt; "{stopped:?}"),
     };
@@ -59,11 +68,24 @@ fn words(rt: &HostRuntime) -> io::Result<Vec<String>> {
     Ok(words)
 }
 
-// How many records a run wrote or found.
+// What a run counts.
+fn unit(words: &[String]) -> &'static str {
+    match words {
+        [mode, _] if mode.as_str() == "push" => "requests",
+        [mode, _, _] if mode.as_str() == "chunks" => "bytes",
+        _ => "records",
+    }
+}
+
+// How many records a run wrote or found, requests or bytes it read.
 fn run(rt: &HostRuntime, words: &[String]) -> Result<u64, Stopped> {
     let alloc = rt.alloc();
     match words {
         [mode, a, b] if mode.as_str() == "load" => count_records(alloc, rt, a.as_str(), b.as_str()),
+        [mode, count] if mode.as_str() == "push" => exchange_pushes(alloc, number(count)?),
+        [mode, count, bytes] if mode.as_str() == "chunks" => {
+            read_chunks(alloc, number(count)?, number(bytes)?)
+        }
         [mode, file, count, bytes] if mode.as_str() == "bare" => {
             write_bare(alloc, rt, file.as_str(), number(count)?, number(bytes)?)
         }

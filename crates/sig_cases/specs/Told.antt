@@ -25,6 +25,8 @@ use Rattle.sig_set.specs.declared.refusal.Refusal.{Refusal}
 use Rattle.sig_set.specs.declared.refusal.Refusal.TheVariants as refusal
 use Rattle.sig_set.specs.declared.reading.ClaimsFault.{ClaimsFault}
 use Rattle.sig_set.specs.declared.reading.ClaimsFault.TheVariants as reading
+use Rattle.sig_http.specs.declared.fault.HttpFault.{HttpFault}
+use Rattle.sig_http.specs.declared.fault.HttpFault.TheVariants as http
 use Rattle.sig_cases.specs.declared.subjects.Relation.{Relation}
 use Rattle.sig_cases.specs.declared.subjects.Relation.TheVariants as relation
 
@@ -107,3 +109,15 @@ abbrev pub claims_told : Result Claims ClaimsFault → List ℕ
 claims_told (Ok c) = said (codes "ok") (payload_text_of c)
 claims_told (Err (reading.Bad spot)) = said (codes "bad") (spot_text spot)
 claims_told (Err reading.Memory) = []
+
+-- of bytes that are no message (RFC 9112)
+abbrev pub message_refused : HttpFault → List ℕ
+message_refused http.Head = codes "head"
+message_refused http.HeadLong = codes "head-long"
+message_refused http.Length = codes "length"
+message_refused http.BodyLong = codes "body-long"
+message_refused http.Coding = codes "coding"
+message_refused http.Expect = codes "expect"
+message_refused http.Cut = codes "cut"
+message_refused http.Link = codes "link"
+message_refused http.Memory = []

@@ -3,7 +3,7 @@
 use crate::spelling::{bare, cut_at_space};
 use crate::subjects::Relation;
 use crate::word::Word;
-use crate::{base, subjects, table, tokens};
+use crate::{base, messages, subjects, table, tokens};
 use sig_json::{Bytes, Memory};
 use sig_sessions::Table;
 use sig_set::Trust;
@@ -76,6 +76,8 @@ impl Bench {
             Word::Row => table::row(alloc, &self.table, rest),
             Word::Verdict => table::verdict(alloc, &self.table, rest),
             Word::Clear => self.cleared(rest),
+            Word::Request => messages::request(alloc, rest),
+            Word::Response => messages::response(alloc, rest),
         }
     }
 

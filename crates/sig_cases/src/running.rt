@@ -18,14 +18,14 @@ pub enum RunFault {
     Input,
     /// The output failed, or took nothing.
     Output,
-    /// Want of memory.
+    /// Out of memory.
     Memory,
     /// 2^62 bytes of the input were read.
     Full,
 }
 
 /// Answers the lines of the input, and gives the exit status: 0 at the end of the input, 3 where it failed, 4 where the
-/// output did, 9 for want of memory.
+/// output did, 9 where memory runs out.
 pub fn run<I: Source, O: Sink>(alloc: Global, input: &mut I, output: &mut O) -> u8
     ensures whole { result ≡ 0 → IsSome (I.left input.old) → I.left input.new ≡ Some [] }
     ensures input { result ≡ 3 → Rose (I.faults input.old) (I.faults input.new) }

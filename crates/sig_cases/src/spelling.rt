@@ -1,6 +1,6 @@
 //! How values, bytes and names stand in lines and answers.
 
-ghost use Rattle.std.specs.Prelude.{◌≡◌, IfOk, option_map};
+ghost use Rattle.std.specs.Prelude.{◌≡◌, IfOk, option_map, string_bytes};
 ghost use Rattle.serde_json.specs.View.{view};
 ghost use Rattle.sig_json.specs.Json.{json_of};
 ghost use Rattle.sig_receiver.specs.Printed.{yes_or_no};
@@ -8,8 +8,10 @@ ghost use Rattle.sig_cases.specs.Told as spec;
 
 use base64::DecodeAllocError;
 use base64::engine::general_purpose::URL_SAFE_NO_PAD;
+use sig_json::limits::LAST_NUMBER;
 use sig_json::{Bytes, JsonFault, Memory, Text, Value, canon, has_fraction, read};
 use std::alloc::Global;
+use std::str;
 
 /// The word alone.
 pub fn bare(alloc: Global, word: &str) -> Result<Bytes, Memory>
@@ -85,15 +87,33 @@ pub fn decoded(alloc: Global, word: &[u8]) -> Result<Option<Bytes>, Memory> {
 pub fn encoded(alloc: Global, bytes: &[u8]) -> Result<Bytes, Memory>
     ensures { IfOk result (λ t. t ≡ spec.encoded bytes.now) }
 {
-    if bytes.is_empty() {
-        return bare(alloc, "-");
-    }
-    let text = URL_SAFE_NO_PAD.encode(alloc, bytes)?;
+    let text = encoded_text(alloc, bytes)?;
     Ok(Bytes::from_vec(text.into_bytes()))
+}
+
+/// The same word as a text.
+pub fn encoded_text(alloc: Global, bytes: &[u8]) -> Result<String, Memory>
+    ensures { IfOk result (λ t. string_bytes t ≡ spec.encoded bytes.now) }
+{
+    if bytes.is_empty() {
+        return Ok(String::from_str(alloc, "-")?);
+    }
+    Ok(URL_SAFE_NO_PAD.encode(alloc, bytes)?)
 }
 
 /// What stands before the first space, and what stands after it; none where there is no space.
 pub fn cut_at_space(text: &[u8]) -> Option<(&[u8], &[u8])> {
     let at = text.iter().position(|byte| *byte == b' ')?;
     Some((text.split_at(at).0, text.split_at(at + 1).1))
+}
+
+/// The number that a word is: decimal from 1 to 2^62, without leading zeros.
+pub fn number_in(word: &[u8]) -> Option<u64> {
+    if word.first() == Some(&b'0') || !word.iter().all(|byte| byte.is_ascii_digit()) {
+        return None;
+    }
+    match str::from_utf8(word).ok()?.parse::<u64>() {
+        Ok(number) if 0 < number && number <= LAST_NUMBER => Some(number),
+        _ => None,
+    }
 }

@@ -1,17 +1,15 @@
 //! Lines on the session table.
 
-use crate::spelling::{bare, said, spelled, valued};
+use crate::spelling::{bare, number_in, said, spelled, valued};
 use crate::subjects::subject_in;
 use serde_json::{Map, json};
 use sig_event::{Claims, Event, EventFault};
-use sig_json::limits::LAST_NUMBER;
 use sig_json::{Bytes, Items, Listed, Memory, Text, Value};
 use sig_receiver::row_line;
 use sig_sessions::{Table, Verdict};
 use sig_set::Spot;
 use sig_subject::Subject;
 use std::alloc::Global;
-use std::str;
 
 /// `rows <count>` after the events took effect, or `bad` and the spot of the first check that fails; none where the rest
 /// is no object.
@@ -94,7 +92,7 @@ fn events(
 /// The line of the row at a place, counted from 1, or `none` where there are not so many; none where the rest is no
 /// place.
 pub fn row(alloc: Global, table: &Table, rest: &[u8]) -> Result<Option<Bytes>, Memory> {
-    let Some(place) = place_in(rest) else {
+    let Some(place) = number_in(rest) else {
         return Ok(None);
     };
     let page = table.rows(place.saturating_sub(1), 1)?;
@@ -106,22 +104,6 @@ pub fn row(alloc: Global, table: &Table, rest: &[u8]) -> Result<Option<Bytes>, M
         None => bare(alloc, "none")?,
     };
     Ok(Some(answer))
-}
-
-// A place: decimal from 1 to 2^62, without leading zeros.
-fn place_in(rest: &[u8]) -> Option<u64> {
-    let word = str::from_utf8(rest).ok()?;
-    if !is_decimal(rest) {
-        return None;
-    }
-    match word.parse::<u64>() {
-        Ok(place) if 0 < place && place <= LAST_NUMBER => Some(place),
-        _ => None,
-    }
-}
-
-fn is_decimal(word: &[u8]) -> bool {
-    word.first() != Some(&b'0') && word.iter().all(|byte| byte.is_ascii_digit())
 }
 
 /// The verdict on a subject as an object of six members; none where the rest is no subject.

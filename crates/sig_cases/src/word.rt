@@ -35,6 +35,10 @@ pub enum Word {
     Verdict,
     /// An empty session table.
     Clear,
+    /// What is read of bytes as an HTTP request.
+    Request,
+    /// What is read of bytes as an HTTP response.
+    Response,
 }
 
 impl Word {
@@ -57,6 +61,8 @@ impl Word {
             "row" => Some(Word::Row),
             "verdict" => Some(Word::Verdict),
             "clear" => Some(Word::Clear),
+            "request" => Some(Word::Request),
+            "response" => Some(Word::Response),
             _ => None,
         }
     }

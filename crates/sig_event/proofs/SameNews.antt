@@ -18,7 +18,8 @@ use Rattle.sig_event.specs.declared.event_fault.EventFault.{EventFault}
 use Rattle.sig_event.specs.Events.{IsProperEvent, event_of, event_text, payload_of, uri_of}
 use Rattle.sig_event.proofs.ReadsEvents.{reads_events}
 use Rattle.sig_event.proofs.ProperEvents.{reads_proper, text_is_payload}
-use Rattle.sig_event.specs.News.{News, is_same_news, ReadsProperNews, SameNewsAreEqual}
+use Rattle.sig_event.specs.declared.news.News.{News}
+use Rattle.sig_event.specs.News.{is_same_news, ReadsProperNews, SameNewsAreEqual}
 
 -- ---- one text is of one event
 

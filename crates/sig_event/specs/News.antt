@@ -11,12 +11,9 @@ use Rattle.sig_subject.specs.declared.subject.Subject.{Subject}
 use Rattle.sig_event.specs.Events.{IsProperEvent, event_of, event_text, payload_of, type_of_event, uri_of}
 use Rattle.sig_event.specs.Types.{is_published}
 use Rattle.sig_event.specs.declared.event.Event.{Event}
+use Rattle.sig_event.specs.declared.news.News.{News}
 
 -- whom it is about, and what happened
-pub record News : Type 0 where
-  pub subject : Subject
-  pub event : Event
-
 abbrev pub news : Subject → Event → News
 news subject event = record { subject = subject; event = event }
 

@@ -16,6 +16,7 @@ mod event;
 mod event_fault;
 mod event_type;
 pub mod laws;
+mod news;
 mod reading;
 mod status;
 #[cfg(test)]
@@ -27,6 +28,7 @@ pub use claims::Claims;
 pub use event::{Event, uri};
 pub use event_fault::EventFault;
 pub use event_type::EventType;
+pub use news::News;
 pub use reading::from_json;
 pub use sig_json::PayloadFault;
 pub use status::Status;

@@ -1,6 +1,6 @@
 //! Claims and events move between threads and may be shared by them, which the check of these calls shows.
 
-use crate::{Claims, Event, EventFault, EventType, Status};
+use crate::{Claims, Event, EventFault, EventType, News, Status};
 use sig_json::crosses_threads;
 
 fn types_cross() {
@@ -8,5 +8,6 @@ fn types_cross() {
     crosses_threads::<Event>();
     crosses_threads::<EventFault>();
     crosses_threads::<EventType>();
+    crosses_threads::<News>();
     crosses_threads::<Status>();
 }

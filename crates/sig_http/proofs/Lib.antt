@@ -9,3 +9,7 @@ pub mod ReadingLemmas
 pub mod SectionLemmas
 pub mod TextLemmas
 pub mod TokenLemmas
+pub mod NumberLemmas
+pub mod WrittenLemmas
+pub mod WrittenRequest
+pub mod WrittenResponse

@@ -1,6 +1,9 @@
 -- Laws over what bytes decide.
-use Rattle.std.specs.Prelude.{◌≡◌, ℕ, List}
-use Rattle.sig_http.specs.Message.{Outcome, DecidesRequest, DecidesResponse}
+use Rattle.std.specs.Prelude.{◌≡◌, ℕ, Bool, List, ◌++◌}
+use Rattle.sig_outside.specs.declared.place.Place.{Place}
+use Rattle.sig_http.specs.Message.{Outcome, Whole, DecidesRequest, DecidesResponse}
+use Rattle.sig_http.specs.Spelling.{request_spelling, response_spelling}
+use Rattle.sig_http.specs.Written.{IsReadableRequest, request_read, IsReadableResponse, response_read}
 use Rattle.sig_http.specs.declared.message.Request.{Request}
 use Rattle.sig_http.specs.declared.message.Response.{Response}
 
@@ -11,3 +14,12 @@ HasOneRequest = (bytes : List ℕ) (a b : Outcome Request) → DecidesRequest by
 -- and of a response
 abbrev pub HasOneResponse : Type 0
 HasOneResponse = (bytes : List ℕ) (a b : Outcome Response) → DecidesResponse bytes a → DecidesResponse bytes b → a ≡ b
+
+-- the spelling of such a request, whatever follows it, is that request
+abbrev pub ReadsBackRequest : Type 0
+ReadsBackRequest = (place : Place) (request : Request) (kind : List ℕ) (language : Bool) (rest : List ℕ) → IsReadableRequest place request kind language
+    → DecidesRequest (request_spelling place request kind language ++ rest) (Whole (request_read request) rest)
+
+-- and of a response
+abbrev pub ReadsBackResponse : Type 0
+ReadsBackResponse = (response : Response) (rest : List ℕ) → IsReadableResponse response → DecidesResponse (response_spelling response ++ rest) (Whole (response_read response) rest)

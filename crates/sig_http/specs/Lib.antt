@@ -12,3 +12,4 @@ pub mod Query
 pub mod Section
 pub mod Spelling
 pub mod Values
+pub mod Written

@@ -1,8 +1,10 @@
 ghost use Rattle.std.specs.Prelude.{◌≡◌, ◌∷◌, [], IfOk, Some, codes};
+ghost use Rattle.serde_json.specs.Data.{string};
+ghost use Rattle.serde_json.specs.Written.{compact_text};
 ghost use Rattle.sig_http.specs.Answering as spec;
 
-use crate::{Header, HttpFault, Response};
-use sig_json::{Bytes, Items, Memory, Text};
+use crate::{Header, HttpFault, HttpRefusal, Response};
+use sig_json::{Bytes, Items, Memory, Text, Value, canon};
 use std::alloc::Global;
 
 /// The response with which a server answers a request that can't be read, after which it closes the link. There is none
@@ -56,4 +58,77 @@ fn bad_request(alloc: Global, body: &[u8]) -> Result<Response, Memory>
         close: true,
         body: Bytes::of(alloc, body)?,
     })
+}
+
+/// The response to a request that the routes refuse. It leaves the link open. For `Memory` there is none, and the call is
+/// out of memory too.
+pub fn refusal_of(alloc: Global, refusal: &HttpRefusal) -> Result<Response, Memory>
+    ensures { IfOk result (λ response. Some response ≡ spec.refused_with refusal.now) }
+{
+    match refusal {
+        HttpRefusal::Path => Ok(Response {
+            status: 404,
+            headers: Items::of(Vec::new(alloc)),
+            close: false,
+            body: Bytes::new(alloc),
+        }),
+        HttpRefusal::Method { allow } => saying(alloc, 405, "allow", allow.as_str()),
+        HttpRefusal::Auth => saying(alloc, 401, "www-authenticate", "Bearer"),
+        HttpRefusal::Bad(place) => bad_at(alloc, place.as_str()),
+        HttpRefusal::Memory => Err(Memory),
+    }
+}
+
+// A response without a body that has one field.
+fn saying(alloc: Global, status: u16, name: &str, value: &str) -> Result<Response, Memory>
+    ensures { IfOk result (λ response. response ≡ spec.saying status name.now value.now) }
+{
+    let mut headers = Vec::new(alloc);
+    headers.push(Header {
+        name: Text::of(alloc, name)?,
+        value: Text::of(alloc, value)?,
+    })?;
+    Ok(Response {
+        status,
+        headers: Items::of(headers),
+        close: false,
+        body: Bytes::new(alloc),
+    })
+}
+
+// A response of status 400 that names a place.
+fn bad_at(alloc: Global, place: &str) -> Result<Response, Memory>
+    ensures { IfOk result (λ response. response ≡ spec.bad_at place.now) }
+{
+    let body = bad_body(alloc, place)?;
+    let mut headers = Vec::new(alloc);
+    headers.push(Header {
+        name: Text::of(alloc, "content-type")?,
+        value: Text::of(alloc, "application/json")?,
+    })?;
+    Ok(Response {
+        status: 400,
+        headers: Items::of(headers),
+        close: false,
+        body,
+    })
+}
+
+// The JSON body that names a place.
+fn bad_body(alloc: Global, place: &str) -> Result<Bytes, Memory>
+    ensures { IfOk result (λ body. body ≡ spec.bad_body (compact_text (string place.now))) }
+{
+    let place = Value::String(String::from_str(alloc, place)?);
+    let place = canon(alloc, &place)?;
+    around(alloc, place.as_str().as_bytes())
+}
+
+// The body that names a place by its JSON text.
+fn around(alloc: Global, place: &[u8]) -> Result<Bytes, Memory>
+    ensures { IfOk result (λ body. body ≡ spec.bad_body place.now) }
+{
+    let mut body = Bytes::of(alloc, b"{\"description\":")?;
+    body.add(place)?;
+    body.add(b",\"err\":\"invalid_request\"}")?;
+    Ok(body)
 }

@@ -1,4 +1,4 @@
-use sig_json::MemoryRefusal;
+use sig_json::{MemoryRefusal, Text};
 use thiserror::Error;
 
 /// Why no message is read.
@@ -47,6 +47,21 @@ pub enum SendFault {
     Memory,
 }
 
+/// Why the routes of a server refuse a request that was read.
+#[derive(Debug, PartialEq, Drop)]
+pub enum HttpRefusal {
+    /// No route has this path (RFC 9110, section 15.5.5).
+    Path,
+    /// The path has routes of other methods alone, which are the value of the field `allow` (section 15.5.6).
+    Method { allow: Text },
+    /// The bearer isn't the route's (section 15.5.2).
+    Auth,
+    /// The query or the body is wrong at this place.
+    Bad(Text),
+    /// Out of memory.
+    Memory,
+}
+
 impl<R: MemoryRefusal> From<R> for HttpFault {
     ghost use Rattle.std.specs.Prelude.{◌≡◌};
     ghost use Rattle.sig_http.specs.declared.fault.HttpFault.TheVariants as faults;
@@ -66,5 +81,16 @@ impl<R: MemoryRefusal> From<R> for SendFault {
 
     fn from(_refusal: R) -> SendFault {
         SendFault::Memory
+    }
+}
+
+impl<R: MemoryRefusal> From<R> for HttpRefusal {
+    ghost use Rattle.std.specs.Prelude.{◌≡◌};
+    ghost use Rattle.sig_http.specs.declared.fault.HttpRefusal.TheVariants as refusals;
+
+    ghost from_gives = { λ _ e. e ≡ refusals.Memory };
+
+    fn from(_refusal: R) -> HttpRefusal {
+        HttpRefusal::Memory
     }
 }

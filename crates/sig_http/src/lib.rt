@@ -10,8 +10,8 @@
 //!
 //! Promised: what is answered is what the bytes decide, however a source cuts them; a message ends where its framing says,
 //! and the bytes after it are kept; each refusal is the fault that the shortest prefix of the message decides, and of the
-//! faults that one prefix decides it is the first in a fixed order. Left out: fields that nobody here reads, the content
-//! of a trailer section, and when a source has bytes to give.
+//! faults that one prefix decides it is the first in a fixed order; what is written is read back as the message that it was.
+//! Left out: fields that nobody here reads, the content of a trailer section, and when a source has bytes to give.
 #![tactic(auto)]
 
 mod answers;
@@ -32,8 +32,8 @@ mod section;
 mod values;
 mod writing;
 
-pub use answers::fault_of;
-pub use fault::{HttpFault, SendFault};
+pub use answers::{fault_of, refusal_of};
+pub use fault::{HttpFault, HttpRefusal, SendFault};
 pub use kept::Kept;
 pub use message::{Got, Header, Request, Response};
 pub use query::query_value;

@@ -1,8 +1,8 @@
 //! Each call that may want memory once, and sources and sinks that fail in mid-stream.
 
 use crate::{
-    Got, Header, HttpFault, Kept, Request, Response, SendFault, fault_of, query_value,
-    read_request, read_response, write_request, write_response,
+    Got, Header, HttpFault, HttpRefusal, Kept, Request, Response, SendFault, fault_of, query_value,
+    read_request, read_response, refusal_of, write_request, write_response,
 };
 use sig_json::{Bytes, Items, Memory, Text};
 use sig_outside::{MemSink, MemSource, Place};
@@ -143,5 +143,80 @@ fn the_first_of_two_names_in_a_query_counts(rt: HostRuntime) -> Result<(), Fail>
     let value = query_value(alloc, "x=1&stream%5Fid=acme%2D1+a&stream_id=b", "stream_id")?;
     assert!(rt; value == Some(Text::of(alloc, "acme-1 a")?));
     assert!(rt; query_value(alloc, "x=1", "y")?.is_none());
+    Ok(())
+}
+
+#[test]
+fn a_refusal_of_the_routes_is_answered_in_writing(rt: HostRuntime) -> Result<(), Fail> {
+    let alloc = rt.alloc();
+    let allow = Text::of(alloc, "GET, PUT")?;
+    let mut sink = MemSink::new(alloc, no_calls(alloc));
+    let response = refusal_of(alloc, &HttpRefusal::Method { allow })?;
+    assert!(rt; write_response(alloc, &mut sink, &response).is_ok());
+    let response = refusal_of(alloc, &HttpRefusal::Bad(Text::of(alloc, "a\"b")?))?;
+    assert!(rt; write_response(alloc, &mut sink, &response).is_ok());
+    assert!(rt;
+        sink.bytes()
+            == b"HTTP/1.1 405 Method Not Allowed\r\nallow: GET, PUT\r\ncontent-length: 0\r\n\r\nHTTP/1.1 400 Bad Request\r\ncontent-type: application/json\r\ncontent-length: 46\r\n\r\n{\"description\":\"a\\\"b\",\"err\":\"invalid_request\"}".as_slice()
+    );
+    Ok(())
+}
+
+// A head, and as many bytes after it.
+fn with_body(alloc: Global, head: &[u8], count: usize) -> Result<Bytes, Memory> {
+    let mut bytes = Bytes::of(alloc, head)?;
+    for _ in 0..count / 64 {
+        bytes.add(&[b'b'; 64])?;
+    }
+    for _ in 0..count % 64 {
+        bytes.add(b"c")?;
+    }
+    Ok(bytes)
+}
+
+// How long the body of the request is that these bytes are.
+fn request_body(alloc: Global, bytes: Bytes) -> Result<usize, HttpFault> {
+    let mut source = MemSource::in_pieces(bytes, 1000, no_calls(alloc));
+    match read_request(alloc, &mut source, &mut Kept::new(alloc))? {
+        Got::Request(request) => Ok(request.body.as_slice().len()),
+        Got::End => Ok(0),
+    }
+}
+
+// The same of a response.
+fn response_body(alloc: Global, bytes: Bytes) -> Result<usize, HttpFault> {
+    let mut source = MemSource::in_pieces(bytes, 1000, no_calls(alloc));
+    let response = read_response(alloc, &mut source, &mut Kept::new(alloc))?;
+    Ok(response.body.as_slice().len())
+}
+
+#[test]
+fn a_body_of_the_limit_is_taken(rt: HostRuntime) -> Result<(), Fail> {
+    let alloc = rt.alloc();
+    let head = b"POST / HTTP/1.1\r\ncontent-length: 65536\r\n\r\n";
+    assert!(rt; request_body(alloc, with_body(alloc, head, 65_536)?) == Ok(65_536));
+    let head = b"HTTP/1.1 200 OK\r\ncontent-length: 524288\r\n\r\n";
+    assert!(rt; response_body(alloc, with_body(alloc, head, 524_288)?) == Ok(524_288));
+    Ok(())
+}
+
+#[test]
+fn chunks_of_the_limit_are_taken(rt: HostRuntime) -> Result<(), Fail> {
+    let alloc = rt.alloc();
+    let head = b"POST / HTTP/1.1\r\ntransfer-encoding: chunked\r\n\r\n8000\r\n";
+    let mut bytes = with_body(alloc, head, 32_768)?;
+    let more = with_body(alloc, b"\r\n8000\r\n", 32_768)?;
+    bytes.add(more.as_slice())?;
+    bytes.add(b"\r\n0\r\n\r\n")?;
+    assert!(rt; request_body(alloc, bytes) == Ok(65_536));
+    Ok(())
+}
+
+#[test]
+fn a_body_to_the_end_of_the_source_has_a_limit(rt: HostRuntime) -> Result<(), Fail> {
+    let alloc = rt.alloc();
+    let head = b"HTTP/1.1 200 OK\r\n\r\n";
+    assert!(rt; response_body(alloc, with_body(alloc, head, 524_288)?) == Ok(524_288));
+    assert!(rt; response_body(alloc, with_body(alloc, head, 524_289)?) == Err(HttpFault::BodyLong));
     Ok(())
 }

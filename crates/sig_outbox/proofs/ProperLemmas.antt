@@ -5,8 +5,8 @@ use Rattle.std.proofs.lemmas.Str.{is_utf8-from_IsUtf8}
 use Rattle.std.specs.Str.{is_utf8}
 use Rattle.std.specs.List.{list_all}
 use Rattle.sig_set.proofs.ProperClaims.{ascii}
-use Rattle.sig_outbox.specs.declared.rules.Client.{Client}
-use Rattle.sig_outbox.specs.Sound.{is_proper_client}
+use Rattle.sig_terms.specs.declared.rules.Client.{Client}
+use Rattle.sig_calls.specs.Proper.{is_proper_client}
 
 is_text : (text : List ℕ) → IsUtf8 text → is_utf8 text ≡ true
 is_text text h = is_utf8-from_IsUtf8 text h

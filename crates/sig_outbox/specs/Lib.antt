@@ -1,8 +1,1 @@
-pub mod History
-pub mod Owed
-pub mod Table
-pub mod Sound
-pub mod Laws
-pub mod Balance
-pub mod Kept
-pub mod Steps
+pub mod State

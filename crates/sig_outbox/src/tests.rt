@@ -1,7 +1,7 @@
 //! The first path of a token through the transmitter, and its refusals.
 
 ghost use Rattle.std.specs.Prelude.{◌≡◌, [], ◌∷◌, IfOk, codes};
-ghost use Rattle.sig_outbox.specs.Sound.{IsProperRules};
+ghost use Rattle.sig_calls.specs.Proper.{IsProperRules};
 
 mod calls;
 
@@ -10,13 +10,13 @@ use self::calls::{
     poll_for_tokens, poll_with_a_kept_error, poll_with_an_acknowledgement, publish,
     publish_with_reason, revoke, settle,
 };
-use crate::tokens::claims_for;
 use crate::{
     Answer, Call, Client, Defaults, Delivery, Outbox, PrepareFault, Rules, Step, StreamConf,
 };
-use sig_event::Event;
+use sig_event::{Event, News};
 use sig_json::{Bytes, Items, Memory, Text};
 use sig_jws::Key;
+use sig_ledger::claims_for;
 use sig_set::Claims;
 use sig_subject::Subject;
 use std::alloc::Global;
@@ -268,7 +268,8 @@ fn claims_of_both(alloc: Global) -> Result<Claims, Fail> {
     let conf = conf_of_both(alloc)?;
     let subject = opaque(alloc, "s-77")?;
     let event = event(alloc, REVOKED, "{}")?;
-    Ok(claims_for(alloc, STORE, &conf, 1, 7, &subject, &event)?)
+    let news = News { subject, event };
+    Ok(claims_for(alloc, STORE, &conf, 1, 7, &news)?)
 }
 
 #[test]

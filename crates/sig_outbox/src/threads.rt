@@ -1,17 +1,8 @@
-//! The state, its calls, answers and facts move between threads and may be shared by them, which the check of these calls
-//! shows.
+//! The state moves between threads and may be shared by them, which the check of this call shows.
 
-use crate::{Answer, Call, Fact, Outbox, PrepareFault, Prepared, Rules, Step, Token};
+use crate::Outbox;
 use sig_json::crosses_threads;
 
-fn types_cross() {
+fn type_crosses() {
     crosses_threads::<Outbox>();
-    crosses_threads::<Rules>();
-    crosses_threads::<Call>();
-    crosses_threads::<Answer>();
-    crosses_threads::<Token>();
-    crosses_threads::<Fact>();
-    crosses_threads::<Prepared>();
-    crosses_threads::<Step>();
-    crosses_threads::<PrepareFault>();
 }

@@ -19,7 +19,6 @@ mod ending;
 mod entering;
 mod finishing;
 mod running;
-mod standard;
 #[cfg(test)]
 mod tests;
 
@@ -27,4 +26,3 @@ pub use command::Command;
 pub use ending::Ending;
 pub use entering::enter;
 pub use running::{run, start};
-pub use standard::{ReaderSource, WriterSink};

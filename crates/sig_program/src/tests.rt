@@ -1,12 +1,9 @@
-//! Runs whose input or output fails, and the edge to the system. Whole runs are the cases of `sig_runs`.
+//! Runs whose input or output fails. Whole runs are the cases of `sig_runs`.
 
-use crate::{ReaderSource, WriterSink, run};
+use crate::run;
 use sig_json::{Bytes, Items, Memory};
-use sig_outside::{MemSink, MemSource, Sink, Source};
+use sig_outside::{MemSink, MemSource};
 use std::alloc::Global;
-use std::collections::VecDeque;
-use std::io;
-use std::io::{ErrorKind, Read, Write};
 use std::test::Fail;
 
 const ISS: &str = "https://idp.example";
@@ -172,67 +169,4 @@ fn put_of(
         4 if whole.starts_with(written) && written.len() < whole.len() => 1,
         _ => 2,
     })
-}
-
-#[test]
-fn the_edge_gives_and_takes_what_readers_and_writers_do(rt: HostRuntime) -> Result<(), Fail> {
-    let mut reader = VecDeque::new(rt.alloc());
-    for byte in b"abc" {
-        reader.push_back(*byte)?;
-    }
-    let mut source = ReaderSource::new(reader);
-    let mut buf = [0u8; 2];
-    assert_eq!(rt; source.take(&mut buf), Ok(2));
-    assert_eq!(rt; buf.as_slice(), b"ab".as_slice());
-    assert_eq!(rt; source.take(&mut buf), Ok(1));
-    assert_eq!(rt; source.take(&mut buf), Ok(0));
-    let mut sink = WriterSink::new(VecDeque::new(rt.alloc()));
-    assert_eq!(rt; sink.put(b"xyz"), Ok(3));
-    assert_eq!(rt; sink.put(b""), Ok(0));
-    Ok(())
-}
-
-// A reader and a writer that the system interrupts twice before each call.
-#[derive(Drop)]
-struct Interrupted {
-    calls: u8,
-}
-
-impl Interrupted {
-    fn is_interrupted(&mut self) -> bool {
-        self.calls = self.calls.wrapping_add(1);
-        self.calls % 3 != 0
-    }
-}
-
-impl Read for Interrupted {
-    fn read(&mut self, _buf: &mut [u8]) -> io::Result<usize> {
-        if self.is_interrupted() {
-            return Err(io::Error::from(ErrorKind::Interrupted));
-        }
-        Ok(0)
-    }
-}
-
-impl Write for Interrupted {
-    fn write(&mut self, buf: &[u8]) -> io::Result<usize> {
-        if self.is_interrupted() {
-            return Err(io::Error::from(ErrorKind::Interrupted));
-        }
-        Ok(buf.len())
-    }
-
-    fn flush(&mut self) -> io::Result<()> {
-        Ok(())
-    }
-}
-
-#[test]
-fn an_interrupted_call_is_tried_again(rt: HostRuntime) -> Result<(), Fail> {
-    let mut source = ReaderSource::new(Interrupted { calls: 0 });
-    let mut buf = [0u8; 2];
-    assert_eq!(rt; source.take(&mut buf), Ok(0));
-    let mut sink = WriterSink::new(Interrupted { calls: 0 });
-    assert_eq!(rt; sink.put(b"xyz"), Ok(3));
-    Ok(())
 }

@@ -15,7 +15,7 @@ use Rattle.sig_receiver.specs.declared.heard.Heard.{Heard}
 use Rattle.sig_receiver.specs.declared.heard.Heard.TheVariants.{Accepted, Seen, NotTaken}
 use Rattle.sig_receiver.specs.Journal.{answer_by, answer_to, journal_by, pair_of, pairs_of}
 use Rattle.sig_receiver.specs.Laws.{AnswersByWhatIsKept}
-use Rattle.sig_receiver.specs.Receiver.{Held, Received, StandsFor, heard_at, heard_by, nothing, received, received_of, taken}
+use Rattle.sig_receiver.specs.Receiver.{Held, Received, StandsOver, heard_at, heard_by, received, received_of, taken}
 use Rattle.sig_receiver.specs.Rows.{fold_rows}
 use Rattle.sig_receiver.proofs.JournalLemmas.{joins, known_by_distinct}
 
@@ -99,13 +99,14 @@ grown_by Accepted journal text = refl
 grown_by Seen journal text = append-nil journal
 grown_by (NotTaken code spot) journal text = append-nil journal
 
-pub answer_over : (trust : Trust) (principal named : Option (List ℕ)) (held : Held) (journal : List (List ℕ)) (text : List ℕ) (heard : Heard) → heard ≡ heard_at trust principal named (received held) text
-    → StandsFor held journal → heard ≡ answer_to trust [] principal named journal text
-answer_over trust principal named held journal text heard is stands =
-    is ∙ ap (λ (s : Received). heard_at trust principal named s text) stands ∙ sym (answers trust nothing principal named journal text)
+pub answer_over : (trust : Trust) (base : Received) (principal named : Option (List ℕ)) (held : Held) (journal : List (List ℕ)) (text : List ℕ) (heard : Heard)
+    → heard ≡ heard_at trust principal named (received held) text
+    → StandsOver base held journal → heard ≡ answer_to trust base.pairs principal named journal text
+answer_over trust base principal named held journal text heard is stands =
+    is ∙ ap (λ (s : Received). heard_at trust principal named s text) stands ∙ sym (answers trust base principal named journal text)
 
-pub stands_after : (held held' : Held) (journal : List (List ℕ)) (text : List ℕ) (heard : Heard) → received held' ≡ received_of (received held) (journal_by heard [] text)
-    → StandsFor held journal → StandsFor held' (journal_by heard journal text)
-stands_after held held' journal text heard kept stands =
+pub stands_after : (base : Received) (held held' : Held) (journal : List (List ℕ)) (text : List ℕ) (heard : Heard) → received held' ≡ received_of (received held) (journal_by heard [] text)
+    → StandsOver base held journal → StandsOver base held' (journal_by heard journal text)
+stands_after base held held' journal text heard kept stands =
     kept ∙ ap (λ (s : Received). received_of s (journal_by heard [] text)) stands
-    ∙ sym (joins nothing journal (journal_by heard [] text)) ∙ ap (received_of nothing) (grown_by heard journal text)
+    ∙ sym (joins base journal (journal_by heard [] text)) ∙ ap (received_of base) (grown_by heard journal text)

@@ -2,4 +2,5 @@ pub mod Journal
 pub mod Rows
 pub mod Receiver
 pub mod Printed
+pub mod Taking
 pub mod Laws

@@ -55,9 +55,13 @@ pub record Held : Type 0 where
 abbrev pub received : Held → Received
 received held = record { pairs = held.pairs; rows = held.rows }
 
--- what is kept is that of a journal, over nothing
+-- what is kept is that of a journal, over what was kept before it
+abbrev pub StandsOver : Received → Held → List (List ℕ) → Type 0
+StandsOver base held journal = received held ≡ received_of base journal
+
+-- the same over nothing
 abbrev pub StandsFor : Held → List (List ℕ) → Type 0
-StandsFor held journal = received held ≡ received_of nothing journal
+StandsFor held journal = StandsOver nothing held journal
 
 -- ---- what was made ready
 

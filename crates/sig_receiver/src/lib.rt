@@ -17,6 +17,7 @@ mod hearing;
 pub mod laws;
 mod printing;
 mod receiver;
+mod take_fault;
 #[cfg(test)]
 mod tests;
 mod threads;
@@ -25,3 +26,4 @@ pub use heard::Heard;
 pub use hearing::{Hearing, Ready};
 pub use printing::{answer_line, counts_line, row_line};
 pub use receiver::Receiver;
+pub use take_fault::TakeFault;

@@ -1,13 +1,12 @@
 ghost use Rattle.std.specs.Prelude.{◌≡◌, ◌∷◌, ℕ, List, [], IfOk, IfSome, OnErr, OnOk, is_some, false, length, option_copied};
 ghost use Rattle.sig_inbox.specs.Pairs.{has_pair};
-ghost use Rattle.sig_json.specs.Answers.{Answers, result_map};
-ghost use Rattle.sig_set.specs.Reading.{claims_read};
+ghost use Rattle.sig_json.specs.Answers.{Answers};
 
-use crate::{Heard, Hearing, Ready};
+use crate::{Heard, Hearing, Ready, TakeFault};
 use sig_inbox::{Pair, Seen};
 use sig_json::{Memory, Text};
 use sig_sessions::{Row, Table};
-use sig_set::{Claims, ClaimsFault, Refusal, Trust, claims_of, judge};
+use sig_set::{Claims, Refusal, Trust, claims_of, judge};
 use std::alloc::Global;
 use std::marker::Model;
 
@@ -29,8 +28,9 @@ impl Model for Receiver {
 }
 
 impl Receiver {
-    ghost use Rattle.sig_receiver.specs.Receiver.{IsHearing, IsReady, StandsFor, committed, committed_if, heard_at, is_accepted, nothing, received, received_of, taken};
+    ghost use Rattle.sig_receiver.specs.Receiver.{IsHearing, IsReady, Received, StandsFor, StandsOver, committed, committed_if, heard_at, is_accepted, nothing, received, received_of, taken};
     ghost use Rattle.sig_receiver.specs.Journal.{answer_to, journal_by, pair_of};
+    ghost use Rattle.sig_receiver.specs.Taking.{text_taken};
 
     /// One that took nothing yet. It keeps the allocator.
     pub fn new(alloc: Global) -> Receiver
@@ -143,30 +143,27 @@ impl Receiver {
 
     /// Takes a text of the journal that is loaded, without a judgement of its key. A text whose pair is there changes
     /// nothing. `Bad` names the spot at which the text is no token; after any fault what is kept is as before.
-    pub fn take_up(&mut self, text: &[u8]) -> Result<(), ClaimsFault>
-        ensures fault { Answers ClaimsFault.Memory result (result_map (λ _. tt) (claims_read text.now)) }
+    pub fn take_up(&mut self, text: &[u8]) -> Result<(), TakeFault>
+        ensures fault { Answers TakeFault.Memory result (text_taken text.now) }
         ensures taken { OnOk result (received self.new ≡ received_of (received self.old) (text.now ∷ [])) }
         ensures err { OnErr result (received self.new ≡ received self.old) }
     {
         let claims = match claims_of(self.alloc, text) {
             Ok(claims) => claims,
-            Err(fault) => return Err(fault),
+            Err(fault) => return Err(TakeFault::of_claims(fault)),
         };
         let (known, claims) = self.knows(claims);
         if known {
             return Ok(());
         }
-        match self.make_ready(claims) {
-            Ok(ready) => {
-                self.commit(ready);
-                Ok(())
-            }
-            Err(Memory) => Err(ClaimsFault::Memory),
-        }
+        let ready = self.make_ready(claims)?;
+        self.commit(ready);
+        Ok(())
     }
 
-    /// Judges a token and takes it where it is valid and new. What it answers and keeps is by the journal that it
-    /// stands for, whichever that is. After out of memory what is kept is as before.
+    /// Judges a token and takes it where it is valid and new. What it answers and keeps is by any journal that it stands
+    /// for, over whatever was kept before that journal: one that repeats a token, or goes on from a loaded one, is no
+    /// less a journal. After out of memory what is kept is as before.
     pub fn hear(
         &mut self,
         trust: &Trust,
@@ -178,6 +175,12 @@ impl Receiver {
             → heard ≡ answer_to trust.now [] (option_copied principal.entry) (option_copied named.entry) journal text.now) }
         ensures kept { IfOk result (λ heard. (journal : List (List ℕ)) → StandsFor self.old journal
             → StandsFor self.new (journal_by heard journal text.now)) }
+
+        // The same over what was kept before the journal, whatever that is.
+        ensures answer_over { IfOk result (λ heard. (base : Received) (journal : List (List ℕ)) → StandsOver base self.old journal
+            → heard ≡ answer_to trust.now base.pairs (option_copied principal.entry) (option_copied named.entry) journal text.now) }
+        ensures kept_over { IfOk result (λ heard. (base : Received) (journal : List (List ℕ)) → StandsOver base self.old journal
+            → StandsOver base self.new (journal_by heard journal text.now)) }
         ensures err { OnErr result (received self.new ≡ received self.old) }
     {
         let Hearing { heard, change } = self.prepare(trust, principal, named, text)?;

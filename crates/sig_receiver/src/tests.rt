@@ -2,10 +2,10 @@
 
 mod tokens;
 
-use crate::{Heard, Hearing, Receiver, answer_line, counts_line, row_line};
+use crate::{Heard, Hearing, Receiver, TakeFault, answer_line, counts_line, row_line};
 use sig_json::{Bytes, Items, Memory, Text};
 use sig_jws::Key;
-use sig_set::{Issuer, Trust};
+use sig_set::{Issuer, Spot, Trust};
 use std::alloc::Global;
 use std::test::Fail;
 
@@ -77,6 +77,14 @@ fn a_loaded_journal_makes_its_rows(rt: HostRuntime) -> Result<(), Fail> {
     assert!(rt; has_row(rt.alloc(), &receiver, row)?);
     let counts = counts_line(rt.alloc(), receiver.rows().len(), receiver.tokens())?;
     assert_eq!(rt; counts.as_str(), "rows 1 tokens 1\n");
+    Ok(())
+}
+
+#[test]
+fn a_text_that_is_no_token_is_not_taken(rt: HostRuntime) -> Result<(), Fail> {
+    let mut receiver = Receiver::new(rt.alloc());
+    assert!(rt; receiver.take_up(b"a.b") == Err(TakeFault::Bad(Spot::Compact)));
+    assert!(rt; receiver.tokens() == 0);
     Ok(())
 }
 

@@ -1,4 +1,8 @@
 pub mod Events
 pub mod Rows
 pub mod Updates
-pub mod Marked
+pub mod EqualRows
+pub mod SharedKeys
+pub mod FoundRows
+pub mod Tallies
+pub mod FoundUpdates

@@ -165,7 +165,7 @@ updated_subjects place u [] = refl
 updated_subjects zero u (r ∷ rows) = refl
 updated_subjects (suc place) u (r ∷ rows) = ap (λ l. r.subject ∷ l) (updated_subjects place u rows)
 
-all_updated_subjects : (us : List Update) (rows : List Row) → subjects_of (updated_by us rows) ≡ subjects_of rows
+pub all_updated_subjects : (us : List Update) (rows : List Row) → subjects_of (updated_by us rows) ≡ subjects_of rows
 all_updated_subjects [] rows = refl
 all_updated_subjects (u ∷ us) rows = all_updated_subjects us (updated_at u.place u rows) ∙ updated_subjects u.place u rows
 

@@ -1,12 +1,14 @@
 -- A change of the table that was made ready, and the table as it is held.
-use Rattle.std.specs.Prelude.{◌≡◌, ◌<◌, ℕ, zero, suc, List, [], ◌∷◌, ◌++◌, Option, Some, None, IfSome, false, length, ⊤}
+use Rattle.std.specs.Prelude.{◌≡◌, ◌<◌, ◌≤◌, ℕ, zero, suc, List, [], ◌∷◌, ◌++◌, Option, Some, None, IfSome, false, if◌then◌else◌, length, nat_lt, ⊤}
 use Rattle.std.specs.Option.{option_to_list}
 use Rattle.sig_json.specs.Checks.{or_else}
+use Rattle.sig_places.specs.declared.entry.Entry.{Entry}
 use Rattle.sig_sessions.specs.declared.row.Row.{Row}
 use Rattle.sig_sessions.specs.declared.update.Update.{Update}
+use Rattle.sig_sessions.specs.Keys.{entries_at, keys_of}
 use Rattle.sig_sessions.specs.Table.{has_row, with_state}
 
--- the rows, and for how many further ones there is room
+-- the rows, and how many keys one further row may have
 pub record Held : Type 0 where
   pub rows : List Row
   pub room : ℕ
@@ -40,10 +42,19 @@ abbrev pub ArePlaced : ℕ → List Update → Type 0
 ArePlaced places [] = ⊤
 ArePlaced places (u ∷ us) = (u.place < places) × ArePlaced places us
 
--- there is room for the row to be added
+-- how many keys one further row may have: none where there is no room for the row
+abbrev pub room_for : ℕ → ℕ → ℕ
+room_for rows keys = if nat_lt 0 rows then keys else 0
+
+-- there is room for the row to be added, under each of its keys
 abbrev pub HasRoom : ℕ → Option Row → Type 0
 HasRoom room None = ⊤
-HasRoom room (Some row) = 0 < room
+HasRoom room (Some row) = length (keys_of row.subject) ≤ room
+
+-- the entries of the row to be added, at this place
+abbrev pub entries_added : ℕ → Option Row → List Entry
+entries_added place None = []
+entries_added place (Some row) = entries_at place (keys_of row.subject)
 
 -- the row to be added is of a subject that has none
 abbrev pub IsNew : List Row → Option Row → Type 0

@@ -1,8 +1,13 @@
 pub mod Effects
+pub mod Equality
+pub mod Fingerprint
+pub mod Keys
 pub mod Table
 pub mod Changes
 pub mod Walks
 pub mod Marks
+pub mod Candidates
 pub mod Verdicts
 pub mod Spelled
 pub mod Laws
+pub mod Indexed

@@ -1,10 +1,12 @@
 //! A change of the table that was made ready.
 
 ghost use Rattle.std.specs.Prelude.{◌≡◌, ◌++◌, ◌∷◌, ◌-◌, ◌<◌, [], length, vec_len, vec_capacity};
-ghost use Rattle.sig_sessions.specs.Changes.{ArePlaced, HasRoom, applied, updated_at, updated_by};
+ghost use Rattle.sig_sessions.specs.Changes.{ArePlaced, HasRoom, applied, entries_added, room_for, updated_at, updated_by};
 
 use crate::Row;
+use crate::keys::put_keys;
 use crate::update::Update;
+use sig_places::Places;
 use std::marker::Model;
 
 /// A change of the table that is ready to be taken in without memory. `Table::commit` alone takes it.
@@ -31,14 +33,16 @@ impl Change {
     }
 
     /// Makes the change. It takes no memory.
-    pub(crate) fn take_in(self, rows: &mut Vec<Row>)
+    pub(crate) fn take_in(self, rows: &mut Vec<Row>, places: &mut Places)
         requires placed { ArePlaced (length rows.old.items) self.updates }
-        requires room { HasRoom (vec_capacity rows.old - vec_len rows.old) self.added }
-        ensures { rows.new.items ≡ applied self rows.old.items }
+        requires room { HasRoom (room_for (vec_capacity rows.old - vec_len rows.old) places.old.room) self.added }
+        ensures rows { rows.new.items ≡ applied self rows.old.items }
+        ensures places { places.new.entries ≡ places.old.entries ++ entries_added (length rows.old.items) self.added }
     {
         let Change { updates, added } = self;
         update_rows(rows, updates);
         if let Some(row) = added {
+            put_keys(places, rows.len(), &row.subject);
             push_within(rows, row);
         }
     }
@@ -49,6 +53,7 @@ fn update_rows(rows: &mut Vec<Row>, updates: Vec<Update>)
     requires { ArePlaced (length rows.old.items) updates.items }
     ensures rows { rows.new.items ≡ updated_by updates.items rows.old.items }
     ensures room { vec_capacity rows.new - vec_len rows.new ≡ vec_capacity rows.old - vec_len rows.old }
+    ensures len { length rows.new.items ≡ length rows.old.items }
 {
     for update in updates {
         update_row(rows.as_mut_slice(), update);

@@ -1,12 +1,9 @@
 //! What a row may say of each subject that it covers.
 
 ghost use Rattle.std.specs.Prelude.{◌≡◌};
-ghost use Rattle.std.specs.List.{list_any};
 ghost use Rattle.sig_sessions.specs.Marks as spec;
-ghost use Rattle.sig_sessions.specs.Verdicts.{covering};
 
 use crate::{Account, Device, Row, Session};
-use sig_subject::{Subject, covers};
 
 /// One thing that a row may say.
 #[derive(Clone, Copy, Debug, PartialEq, Eq, Hash)]
@@ -21,19 +18,8 @@ pub(crate) enum Mark {
     Reset,
 }
 
-/// Whether a row that covers the subject says it.
-pub(crate) fn is_said(rows: &[Row], subject: &Subject, mark: Mark) -> bool
-    ensures { result ≡ list_any (spec.has_mark mark) (covering subject.now rows.now) }
-{
-    for row in rows {
-        if covers(&row.subject, subject) && has_mark(row, mark) {
-            return true;
-        }
-    }
-    false
-}
-
-fn has_mark(row: &Row, mark: Mark) -> bool
+/// Whether the row says it.
+pub(crate) fn has_mark(row: &Row, mark: Mark) -> bool
     ensures { result ≡ spec.has_mark mark row.now }
 {
     match mark {

@@ -1,33 +1,90 @@
 //! What claims make of the rows, made ready.
 
-ghost use Rattle.std.specs.Prelude.{◌≡◌, IfOk, OnOk, length, map, None, Some, option_copied, if◌then◌else◌};
-ghost use Rattle.std.specs.List.{list_any};
+ghost use Rattle.std.specs.Prelude.{◌≡◌, IfOk, OnOk, length, map, option_copied};
+ghost use Rattle.sig_sessions.specs.Candidates.{known_at, known_under, updates_at, updates_under};
 ghost use Rattle.sig_sessions.specs.Changes.{ArePlaced, updated_by};
+ghost use Rattle.sig_sessions.specs.Keys.{entries_from};
+ghost use Rattle.sig_sessions.specs.Laws.{subjects_of};
 ghost use Rattle.sig_sessions.specs.Table as table;
 ghost use Rattle.sig_sessions.specs.Walks as walk;
 
 use crate::Row;
 use crate::effects::{last_told, states_after};
+use crate::keys::covered_keys;
 use crate::update::Update;
 use sig_event::{Claims, Event};
 use sig_json::{Memory, Text};
-use sig_subject::{Subject, covers, identical};
+use sig_places::{Places, PlacesOf};
+use sig_subject::{covers, identical};
 use std::alloc::Global;
 
-/// What becomes of each row that the claims' subject covers.
-pub(crate) fn updates_of(
+/// What is found of the claims' subject among the rows: what becomes of those that it covers, and whether one is its own.
+#[derive(Debug, Drop)]
+pub(crate) struct Found {
+    /// What becomes of the rows that it covers; one row may stand twice.
+    pub updates: Vec<Update>,
+    /// Whether a row is its own.
+    pub known: bool,
+}
+
+/// What is found of the claims' subject. The places are those of the rows.
+pub(crate) fn found_of(
     alloc: Global,
     rows: &[Row],
+    places: &Places,
     claims: &Claims,
-) -> Result<Vec<Update>, Memory>
-    ensures placed { IfOk result (λ updates. ArePlaced (length rows.now) updates.items) }
-    ensures makes { IfOk result (λ updates. updated_by updates.items rows.now ≡ map (walk.changed_by_all_where_covered claims.now.subject claims.now.events) rows.now) }
+) -> Result<Found, Memory>
+    requires { places.now.entries ≡ entries_from 0 (subjects_of rows.now) }
+    ensures placed { IfOk result (λ found. ArePlaced (length rows.now) found.updates.items) }
+    ensures makes { IfOk result (λ found. updated_by found.updates.items rows.now ≡ map (walk.changed_by_all_where_covered claims.now.subject claims.now.events) rows.now) }
+    ensures known { IfOk result (λ found. found.known ≡ table.has_row claims.now.subject rows.now) }
 {
-    let mut updates = Vec::new(alloc);
-    for (place, row) in rows.iter().enumerate() {
-        add_update(alloc, &mut updates, place, row, claims)?;
+    let (first, second) = covered_keys(places, &claims.subject);
+    let mut found = Found {
+        updates: Vec::new(alloc),
+        known: false,
+    };
+    add_found(alloc, &mut found, rows, places.of(first), claims)?;
+    add_second(alloc, &mut found, rows, places, second, claims)?;
+    Ok(found)
+}
+
+// Adds what is found in the rows under the second key, where there is one.
+fn add_second(
+    alloc: Global,
+    found: &mut Found,
+    rows: &[Row],
+    places: &Places,
+    key: Option<u64>,
+    claims: &Claims,
+) -> Result<(), Memory>
+    ensures updates { OnOk result (found.new.updates.items ≡ updates_under claims.now.subject claims.now.events rows.now places.now.entries key found.old.updates.items) }
+    ensures known { OnOk result (found.new.known ≡ known_under claims.now.subject rows.now places.now.entries key found.old.known) }
+{
+    match key {
+        Some(key) => add_found(alloc, found, rows, places.of(key), claims),
+        None => Ok(()),
     }
-    Ok(updates)
+}
+
+// Adds what is found in the rows at the places.
+fn add_found(
+    alloc: Global,
+    found: &mut Found,
+    rows: &[Row],
+    places: PlacesOf<'_>,
+    claims: &Claims,
+) -> Result<(), Memory>
+    ensures updates { OnOk result (found.new.updates.items ≡ updates_at claims.now.subject claims.now.events rows.now places.entry found.old.updates.items) }
+    ensures known { OnOk result (found.new.known ≡ known_at claims.now.subject rows.now places.entry found.old.known) }
+{
+    for place in places {
+        if let Some(row) = rows.get(place) {
+            found.known = found.known || identical(&row.subject, &claims.subject);
+            add_update(alloc, &mut found.updates, place, row, claims)?;
+        }
+    }
+    Ok(())
 }
 
 // Adds what becomes of the row at a place, where the claims' subject covers it.
@@ -46,23 +103,8 @@ fn add_update(
     Ok(())
 }
 
-/// The subject's own row as the claims leave it, where there is none yet.
-pub(crate) fn row_to_add(
-    alloc: Global,
-    rows: &[Row],
-    claims: &Claims,
-) -> Result<Option<Row>, Memory>
-    ensures { IfOk result (λ row. row ≡ (if table.has_row claims.now.subject rows.now then None
-        else Some (walk.changed_by_all_where_covered claims.now.subject claims.now.events (table.unseen claims.now.subject)))) }
-{
-    if has_row(rows, &claims.subject) {
-        return Ok(None);
-    }
-    Ok(Some(new_row(alloc, claims)?))
-}
-
-// The subject's new row as the claims leave it.
-fn new_row(alloc: Global, claims: &Claims) -> Result<Row, Memory>
+/// The subject's new row as the claims leave it.
+pub(crate) fn new_row(alloc: Global, claims: &Claims) -> Result<Row, Memory>
     ensures { IfOk result (λ row. row ≡ walk.changed_by_all_where_covered claims.now.subject claims.now.events (table.unseen claims.now.subject)) }
 {
     let mut row = Row::unseen(claims.subject.copy(alloc)?);
@@ -92,11 +134,4 @@ fn copy_level(alloc: Global, level: Option<&Text>) -> Result<Option<Text>, Memor
         Some(text) => Ok(Some(text.copy(alloc)?)),
         None => Ok(None),
     }
-}
-
-// Whether a row is identical to the subject.
-fn has_row(rows: &[Row], subject: &Subject) -> bool
-    ensures { result ≡ table.has_row subject.now rows.now }
-{
-    rows.iter().any(|row| identical(&row.subject, subject))
 }

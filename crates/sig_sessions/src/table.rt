@@ -1,11 +1,13 @@
 ghost use Rattle.std.specs.Prelude.{◌≡◌, ◌↔◌, [], IfOk, IsTrue, drop, take, vec_len, vec_capacity};
 
 use crate::effects::have_effect;
-use crate::preparing::{row_to_add, updates_of};
+use crate::keys::key_count;
+use crate::preparing::{found_of, new_row};
 use crate::row::copy_rows;
 use crate::{Change, Row, Verdict, verdict};
 use sig_event::Claims;
 use sig_json::{Items, Memory, same_slices};
+use sig_places::Places;
 use sig_subject::Subject;
 use std::alloc::Global;
 use std::marker::Model;
@@ -15,18 +17,20 @@ use std::marker::Model;
 pub struct Table {
     alloc: Global,
     rows: Vec<Row>,
+    // Where the rows stand, under the keys of their subjects.
+    places: Places,
 }
 
 impl Model for Table {
-    ghost use Rattle.std.specs.Prelude.{◌≡◌, ◌-◌, true, vec_len, vec_capacity};
-    ghost use Rattle.sig_sessions.specs.Changes.{Held};
-    ghost use Rattle.sig_sessions.specs.Table.{are_distinct};
+    ghost use Rattle.std.specs.Prelude.{◌-◌, vec_len, vec_capacity};
+    ghost use Rattle.sig_sessions.specs.Changes.{Held, room_for};
+    ghost use Rattle.sig_sessions.specs.Indexed.{IsIndexed};
 
     ghost Value = { Held };
 
-    ghost view = { λ t. record { rows = t.rows.items; room = vec_capacity t.rows - vec_len t.rows } };
+    ghost view = { λ t. record { rows = t.rows.items; room = room_for (vec_capacity t.rows - vec_len t.rows) t.places.room } };
 
-    ghost invariant = { λ t. are_distinct t.rows.items ≡ true };
+    ghost invariant = { λ t. IsIndexed t.rows.items t.places.entries };
 }
 
 impl Table {
@@ -41,6 +45,7 @@ impl Table {
         Table {
             alloc,
             rows: Vec::new(alloc),
+            places: Places::new(alloc),
         }
     }
 
@@ -54,12 +59,14 @@ impl Table {
         if !have_effect(claims.events.as_slice()) {
             return Ok(Change::of(Vec::new(self.alloc), None));
         }
-        let updates = updates_of(self.alloc, self.rows.as_slice(), claims)?;
-        let added = row_to_add(self.alloc, self.rows.as_slice(), claims)?;
-        if added.is_some() {
-            self.rows.reserve(1)?;
+        let found = found_of(self.alloc, self.rows.as_slice(), &self.places, claims)?;
+        if found.known {
+            return Ok(Change::of(found.updates, None));
         }
-        Ok(Change::of(updates, added))
+        let added = new_row(self.alloc, claims)?;
+        self.rows.reserve(1)?;
+        self.places.make_room(key_count(&claims.subject))?;
+        Ok(Change::of(found.updates, Some(added)))
     }
 
     /// Takes in the change that the last `prepare` gave. It takes no memory.
@@ -67,14 +74,14 @@ impl Table {
         requires { IsReady self.old change }
         ensures { self.new.rows ≡ applied change self.old.rows }
     {
-        change.take_in(&mut self.rows);
+        change.take_in(&mut self.rows, &mut self.places);
     }
 
     /// What the table says of a subject. It takes no memory.
     pub fn verdict(&self, subject: &Subject) -> Verdict
         ensures { result ≡ verdict_of self.now.rows subject.now }
     {
-        verdict::verdict_of(self.rows.as_slice(), subject)
+        verdict::verdict_of(self.rows.as_slice(), &self.places, subject)
     }
 
     /// The rows in order.
@@ -107,8 +114,32 @@ impl Table {
         Ok(Table {
             alloc: self.alloc,
             rows: copy_rows(self.alloc, self.rows.as_slice())?,
+            places: self.places.copy(self.alloc)?,
         })
     }
+}
+
+/// The rows are compared in their order, and not the room for more.
+impl PartialEq for Table {
+    ghost use Rattle.std.specs.Cmp.Lexicographic.{pointwise, lists_per};
+    ghost use Rattle.std.specs.Cmp.{on_per, partial_equiv_from_equiv};
+    ghost use Rattle.sig_sessions.specs.Equality.{row_eq, row_equiv};
+
+    ghost eq = { λ a b. pointwise row_eq a.rows b.rows };
+
+    ghost laws = { on_per (λ t. t.rows) (lists_per (partial_equiv_from_equiv row_equiv)) };
+
+    fn eq(&self, other: &Table) -> bool {
+        self.has_same_rows(other)
+    }
+}
+
+impl Eq for Table {
+    ghost use Rattle.std.specs.Cmp.Lexicographic.{lists_equiv};
+    ghost use Rattle.std.specs.Cmp.{on_equiv};
+    ghost use Rattle.sig_sessions.specs.Equality.{row_equiv};
+
+    ghost laws = { on_equiv (λ t. t.rows) (lists_equiv row_equiv) };
 }
 
 // The rows from a place on, at most so many.

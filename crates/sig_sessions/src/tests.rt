@@ -69,6 +69,6 @@ fn rows_come_by_pages(rt: HostRuntime) -> Result<(), Fail> {
 fn a_copy_has_the_same_rows(rt: HostRuntime) -> Result<(), Fail> {
     let table = two_users(rt.alloc())?;
     let copy = table.copy()?;
-    assert!(rt; copy.has_same_rows(&table));
+    assert!(rt; copy == table);
     Ok(())
 }

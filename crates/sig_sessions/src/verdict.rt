@@ -1,12 +1,17 @@
 //! What the session table says of a subject.
 
-ghost use Rattle.std.specs.Prelude.{◌≡◌, option_copied};
+ghost use Rattle.std.specs.Prelude.{◌≡◌, true};
+ghost use Rattle.sig_sessions.specs.Candidates as candidates;
+ghost use Rattle.sig_sessions.specs.Keys.{entries_from};
+ghost use Rattle.sig_sessions.specs.Laws.{subjects_of};
+ghost use Rattle.sig_sessions.specs.Table.{are_distinct};
 ghost use Rattle.sig_sessions.specs.Verdicts as spec;
 
-use crate::marks::{Mark, is_said};
+use crate::tally::{Tally, tally_of};
 use crate::{Account, Device, Row, Session};
 use sig_json::Same;
-use sig_subject::{Subject, identical};
+use sig_places::Places;
+use sig_subject::Subject;
 
 /// What the session table says of a subject.
 #[derive(Clone, Copy, Debug, PartialEq, Eq, Hash)]
@@ -37,82 +42,76 @@ impl Same for Verdict {
     }
 }
 
-/// The verdict of the rows on the subject.
-pub(crate) fn verdict_of(rows: &[Row], subject: &Subject) -> Verdict
+/// The verdict of the rows on the subject. No two of them are of identical subjects, and the places are theirs.
+pub(crate) fn verdict_of(rows: &[Row], places: &Places, subject: &Subject) -> Verdict
+    requires distinct { are_distinct rows.now ≡ true }
+    requires placed { places.now.entries ≡ entries_from 0 (subjects_of rows.now) }
     ensures { result ≡ spec.verdict_of rows.now subject.now }
 {
-    let own = row_of(rows, subject);
-    let session = session_by(own, rows, subject);
-    let account = account_among(rows, subject);
-    let device = device_among(rows, subject);
-    let reset = is_said(rows, subject, Mark::Reset);
+    told(tally_of(rows, places, subject))
+}
+
+// The verdict by what the rows say.
+fn told(tally: Tally) -> Verdict
+    ensures { result ≡ candidates.verdict_told tally }
+{
+    let session = session_told(tally);
+    let account = account_told(tally);
+    let device = device_told(tally);
     Verdict {
-        known: own.is_some(),
+        known: tally.known,
         session,
         account,
         device,
-        reset,
-        allow: is_allowed(session, account, device, reset),
+        reset: tally.reset,
+        allow: is_allowed(session, account, device, tally.reset),
     }
-}
-
-// The row that is identical to the subject.
-fn row_of<'a>(rows: &'a [Row], subject: &Subject) -> Option<&'a Row>
-    ensures { option_copied result ≡ spec.row_of subject.now rows.now }
-{
-    rows.iter().find(|row| identical(&row.subject, subject))
 }
 
 // That of the subject's own row, else that among the rows that cover it.
-fn session_by(own: Option<&Row>, rows: &[Row], subject: &Subject) -> Session
-    ensures { result ≡ spec.session_by (option_copied own.entry) (spec.covering subject.now rows.now) }
+fn session_told(tally: Tally) -> Session
+    ensures { result ≡ candidates.session_of_tally tally }
 {
-    match own {
-        Some(row) => row.session,
-        None => session_among(rows, subject),
+    let (revoked, live) = if tally.known {
+        (tally.own_revoked, tally.own_live)
+    } else {
+        (tally.revoked, tally.live)
+    };
+    if revoked {
+        Session::Revoked
+    } else if live {
+        Session::Live
+    } else {
+        Session::Unseen
     }
-}
-
-// Revoked where a covering row is, else live where one is.
-fn session_among(rows: &[Row], subject: &Subject) -> Session
-    ensures { result ≡ spec.session_among (spec.covering subject.now rows.now) }
-{
-    if is_said(rows, subject, Mark::Revoked) {
-        return Session::Revoked;
-    }
-    if is_said(rows, subject, Mark::Live) {
-        return Session::Live;
-    }
-    Session::Unseen
 }
 
 // The greatest of the covering rows.
-fn account_among(rows: &[Row], subject: &Subject) -> Account
-    ensures { result ≡ spec.account_among (spec.covering subject.now rows.now) }
+fn account_told(tally: Tally) -> Account
+    ensures { result ≡ candidates.account_told tally.purged tally.disabled tally.enabled }
 {
-    if is_said(rows, subject, Mark::Purged) {
-        return Account::Purged;
+    if tally.purged {
+        Account::Purged
+    } else if tally.disabled {
+        Account::Disabled
+    } else if tally.enabled {
+        Account::Enabled
+    } else {
+        Account::Unseen
     }
-    if is_said(rows, subject, Mark::Disabled) {
-        return Account::Disabled;
-    }
-    if is_said(rows, subject, Mark::Enabled) {
-        return Account::Enabled;
-    }
-    Account::Unseen
 }
 
 // Not compliant where a covering row isn't, else compliant where one is.
-fn device_among(rows: &[Row], subject: &Subject) -> Device
-    ensures { result ≡ spec.device_among (spec.covering subject.now rows.now) }
+fn device_told(tally: Tally) -> Device
+    ensures { result ≡ candidates.device_told tally.not_compliant tally.compliant }
 {
-    if is_said(rows, subject, Mark::NotCompliant) {
-        return Device::NotCompliant;
+    if tally.not_compliant {
+        Device::NotCompliant
+    } else if tally.compliant {
+        Device::Compliant
+    } else {
+        Device::Unseen
     }
-    if is_said(rows, subject, Mark::Compliant) {
-        return Device::Compliant;
-    }
-    Device::Unseen
 }
 
 fn is_allowed(session: Session, account: Account, device: Device, reset: bool) -> bool

@@ -25,7 +25,7 @@ pub refused_alike : {T U : Type 0} (o : Option Fault) (x : T) (y : U) (e : Refus
 refused_alike None x y e h = cc
 refused_alike (Some fault) x y e h = cc
 
--- behind a part that was passed the rest decides
+-- after a part that was passed the rest decides
 pub rest_left : {T U : Type 0} (cs ds : List (Check Fault)) (x a : T) (y : U) → unless_refused (first_failing cs) x ≡ Ok a
     → unless_refused (first_failing (cs ++ ds)) y ≡ unless_refused (first_failing ds) y
 rest_left cs ds x a y h = ap (λ o. unless_refused o y) (rest_decides cs ds (none_failed (first_failing cs) x a h))
@@ -45,7 +45,7 @@ pub part_answers : {T U : Type 0} (cs ds : List (Check Fault)) (x : T) (y : U) (
 part_answers cs ds x y e (inl is) = inl is
 part_answers cs ds x y e (inr is) = inr (part_refused cs ds x y e is)
 
--- the answer behind a part that was passed
+-- the answer after a part that was passed
 pub behind_part : {T U : Type 0} (cs ds : List (Check Fault)) (x a : T) (y : U) (r : Result U Refusal) → unless_refused (first_failing cs) x ≡ Ok a
     → Answers Memory r (unless_refused (first_failing ds) y) → Answers Memory r (unless_refused (first_failing (cs ++ ds)) y)
 behind_part {U = U} cs ds x a y r h told = subst (λ (s : Result U Refusal). Answers Memory r s) (sym (rest_left cs ds x a y h)) told
@@ -60,7 +60,7 @@ pub one_failed : {U : Type 0} (code : Code) (spot : Spot) (holds : Bool) (cs : L
     → Answers Memory r (unless_refused (first_failing (refused_unless code spot holds ∷ cs)) y)
 one_failed code spot holds cs y r is fails = rw is (inr (rw fails refl))
 
--- behind a check that holds the rest decides
+-- after a check that holds the rest decides
 pub one_held : {U : Type 0} (code : Code) (spot : Spot) (holds : Bool) (cs : List (Check Fault)) (y : U) (r : Result U Refusal) → holds ≡ true
     → Answers Memory r (unless_refused (first_failing cs) y) → Answers Memory r (unless_refused (first_failing (refused_unless code spot holds ∷ cs)) y)
 one_held code spot holds cs y r h told = rw h told

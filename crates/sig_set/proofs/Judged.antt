@@ -41,7 +41,7 @@ pub as_refused : (o : Option Fault) (claims : Claims) (code : Code) (at : Spot) 
 as_refused o claims code at (inl is) = cc
 as_refused o claims code at (inr is) = inr (as_bad o claims code at is)
 
--- ---- the parts behind an opened form
+-- ---- the parts after an opened form
 
 -- the checks of trust by what was opened
 trust_alike : (trust : Trust) (principal : Option (List ℕ)) (token : Option Compact) (header payload : Option Data) (t : Compact) (h p : Data)

@@ -10,6 +10,7 @@ use crate::content::content;
 use crate::opening::open;
 use crate::refusal::refused;
 use crate::{Claims, Code, Refusal, Spot};
+use sig_json::MemoryRefusal;
 use std::alloc::Global;
 
 /// Why a text gives no claims.
@@ -19,6 +20,16 @@ pub enum ClaimsFault {
     Bad(Spot),
     /// Out of memory.
     Memory,
+}
+
+impl<R: MemoryRefusal> From<R> for ClaimsFault {
+    ghost use Rattle.sig_set.specs.declared.reading.ClaimsFault.TheVariants.{Memory};
+
+    ghost from_gives = { λ _ e. e ≡ Memory };
+
+    fn from(_refusal: R) -> ClaimsFault {
+        ClaimsFault::Memory
+    }
 }
 
 /// The claims of a token's text, without a judgement of its key: for texts that were judged before (RFC 8417, section
@@ -36,7 +47,7 @@ pub fn claims_of(alloc: Global, bytes: &[u8]) -> Result<Claims, ClaimsFault>
     }
 }
 
-/// The claims of the text, or the refusal of the first check that fails.
+// The claims of the text, or the refusal of the first check that fails.
 fn spoken(alloc: Global, bytes: &[u8]) -> Result<Claims, Refusal>
     ensures { Answers Refusal.Memory result (unless_refused (first_failing (reading_checks bytes.now)) (claims_of bytes.now)) }
 {

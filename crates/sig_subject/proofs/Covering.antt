@@ -34,12 +34,12 @@ named_agree missing all [] named = refl
 named_agree missing all (m ∷ ms) named = both_true _ _ (ap (agrees missing m.simple) named.0 ∙ simple_same m.simple) (named_agree missing all ms named.1)
 
 -- what agrees and has to be there is there
-agrees_found : (s : Simple) (o : Option Simple) → agrees false s o ≡ true → o ≡ Some s
+pub agrees_found : (s : Simple) (o : Option Simple) → agrees false s o ≡ true → o ≡ Some s
 agrees_found s None h = cc
 agrees_found s (Some t) h = ap Some (sym (simple_sound s t h))
 
 -- what the name finds agrees
-found_agrees : (missing : Bool) (n : List ℕ) (s : Simple) (xs ys : List Member) → part_named n xs ≡ Some s → all_agree missing xs ys ≡ true → agrees missing s (part_named n ys) ≡ true
+pub found_agrees : (missing : Bool) (n : List ℕ) (s : Simple) (xs ys : List Member) → part_named n xs ≡ Some s → all_agree missing xs ys ≡ true → agrees missing s (part_named n ys) ≡ true
 found_agrees missing n s [] ys found all = cc
 found_agrees missing n s (m ∷ xs) ys found all =
     let both = and_parts (agrees missing m.simple (part_named m.name ys)) (all_agree missing xs ys) all in
@@ -66,7 +66,7 @@ parts_cover (m ∷ xs) ys zs one two =
     let found = agrees_found m.simple (part_named m.name ys) both.0 in
     both_true _ _ (found_agrees false m.name m.simple ys zs found two) (parts_cover xs ys zs both.1 two)
 
-found_any : (a s : Simple) (n : List ℕ) (zs : List Member) → same_simple a s ≡ true → part_named n zs ≡ Some s → list_any (λ (m : Member). same_simple a m.simple) zs ≡ true
+pub found_any : (a s : Simple) (n : List ℕ) (zs : List Member) → same_simple a s ≡ true → part_named n zs ≡ Some s → list_any (λ (m : Member). same_simple a m.simple) zs ≡ true
 found_any a s n [] same found = cc
 found_any a s n (m ∷ zs) same found = by_name (bytes_eq n m.name) found (λ h. found_any a s n zs same h)
   where

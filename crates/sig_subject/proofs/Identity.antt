@@ -1,5 +1,6 @@
 -- Identical subjects are one value.
 use Rattle.std.proofs.Common.{◌≡◌, ◌↔◌, ◌&&◌, ℕ, List, [], ◌∷◌, Bool, true, IsTrue, bytes_eq, refl, ap, ap₂, ◌∙◌, sym}
+use Rattle.std.specs.Cmp.{IsEquivalence, decided}
 use Rattle.std.proofs.lemmas.Bool.{and_parts}
 use Rattle.std.proofs.lemmas.Slice.Eq.{bytes_eq-Decides}
 use Rattle.sig_subject.specs.declared.plain.Plain.{Plain}
@@ -97,3 +98,7 @@ decides_simple a b = (simple_sound a b, λ e. ap (same_simple a) (sym e) ∙ sim
 
 pub decides_identity : DecidesIdentity
 decides_identity a b = (subject_sound a b, λ e. ap (is_identical a) (sym e) ∙ subject_same a)
+
+-- being identical is an equivalence
+pub identity_equiv : IsEquivalence is_identical
+identity_equiv = decided is_identical decides_identity

@@ -7,10 +7,10 @@ use Rattle.sig_receiver.specs.Journal.{pair_of, distinct}
 use Rattle.sig_receiver.specs.Printed.{table_text}
 use Rattle.sig_receiver.specs.Receiver.{Received, nothing, received, received_of}
 use Rattle.sig_receiver.specs.Rows.{fold_rows}
-use Rattle.sig_outbox.specs.History.{Stream}
-use Rattle.sig_outbox.specs.Owed.{Sum}
+use Rattle.sig_history.specs.Streams.{Stream}
+use Rattle.sig_history.specs.Owed.{Sum}
 use Rattle.sig_world.specs.declared.replayer.Replayer.{Replayer}
-use Rattle.sig_world.specs.World.{World, sum_in}
+use Rattle.sig_law.specs.World.{World, sum_in}
 use Rattle.sig_world.specs.Replay.{end_text, owed_line, owed_text, replay_ends}
 use Rattle.sig_world.specs.Replaying.{IsAt}
 

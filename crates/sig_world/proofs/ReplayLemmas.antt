@@ -2,16 +2,17 @@
 use Rattle.std.proofs.Common.{◌≡◌, ◌∙◌, ap, sym, ℕ, ◌+◌, List, [], ◌∷◌, ◌++◌, length, Option, Some, None, refl, arith, append_assoc, append-nil}
 use Rattle.std.specs.Prelude.{Bool, true, false, is_none, is_some, if◌then◌else◌}
 use Rattle.sig_json.specs.declared.limits.TheConstants.{LAST_NUMBER}
-use Rattle.sig_outbox.specs.declared.call.Call.{Call}
-use Rattle.sig_outbox.specs.declared.token.Token.{Token}
-use Rattle.sig_outbox.specs.Table.{answer_of, over_top, publication_of}
-use Rattle.sig_world.specs.declared.script.ScriptLine.{ScriptLine}
-use Rattle.sig_world.specs.declared.script.ScriptLine.TheVariants as line
+use Rattle.sig_terms.specs.declared.call.Call.{Call}
+use Rattle.sig_terms.specs.declared.token.Token.{Token}
+use Rattle.sig_history.specs.Streams.{publication_of}
+use Rattle.sig_calls.specs.Table.{answer_of, over_top}
+use Rattle.sig_script.specs.declared.script.ScriptLine.{ScriptLine}
+use Rattle.sig_script.specs.declared.script.ScriptLine.TheVariants as line
 use Rattle.sig_command.specs.declared.stop.Stop.{Stop}
 use Rattle.sig_command.specs.declared.stop.Stop.TheVariants.{Line, Full}
-use Rattle.sig_world.specs.Script.{script_line_of}
-use Rattle.sig_world.specs.World.{World, Reply, called, new_world, settle_call, sum_in}
-use Rattle.sig_world.specs.Replay.{Played, call_text, counted_at, create_call, played, played_answer, played_call, played_delivery, played_found, played_line, played_publication, poll_call, refused, replay_ends, script_stop, script_text, script_world, publish_call}
+use Rattle.sig_script.specs.Script.{script_line_of}
+use Rattle.sig_law.specs.World.{World, Reply, new_world, settle_call, sum_in}
+use Rattle.sig_world.specs.Replay.{Played, call_text, called, counted_at, create_call, played, played_answer, played_call, played_delivery, played_found, played_line, played_publication, poll_call, refused, replay_ends, script_stop, script_text, script_world, publish_call}
 use Rattle.sig_world.specs.ReplayLaws.{text-goes, stop-goes, world-goes, text-stops, stop-stops}
 
 none_some : (s : Stop) → None ≡ Some s → ⊥
@@ -109,7 +110,7 @@ call-stop number w c =
     (record {
       stop = None;
       text = call_text number (length w.messages) (answer_of replay_ends.rules (sum_in replay_ends w) c w.time);
-      world = called replay_ends c w;
+      world = called w c;
     })
 
 full-call : (number : ℕ) (w : World) (n : ℕ) (c : Call) → (played_call number w c).stop ≡ Some (Full n) → n ≡ LAST_NUMBER + 1

@@ -10,24 +10,27 @@ use Rattle.sig_receiver.specs.declared.heard.Heard.{Heard}
 use Rattle.sig_receiver.specs.Journal.{answer_to, journal_by}
 use Rattle.sig_receiver.specs.Receiver.{StandsFor}
 use Rattle.sig_set.specs.Written.{token_text}
-use Rattle.sig_outbox.specs.declared.answer.Answer.{Answer}
-use Rattle.sig_outbox.specs.declared.call.Call.{Call}
-use Rattle.sig_outbox.specs.declared.fact.Fact.{Fact}
-use Rattle.sig_outbox.specs.declared.rules.Rules.{Rules}
-use Rattle.sig_outbox.specs.declared.step.PrepareFault.{PrepareFault}
-use Rattle.sig_outbox.specs.declared.token.Token.{Token}
-use Rattle.sig_outbox.specs.Owed.{Sum, empty_sum, sum_of}
-use Rattle.sig_outbox.specs.Sound.{is_proper_rules}
-use Rattle.sig_outbox.specs.Table.{Told, answer_of, change_of, over_top, prepared_of, told_by}
-use Rattle.sig_outbox.proofs.JoinLemmas.{joined}
+use Rattle.sig_terms.specs.declared.answer.Answer.{Answer}
+use Rattle.sig_terms.specs.declared.call.Call.{Call}
+use Rattle.sig_terms.specs.declared.fact.Fact.{Fact}
+use Rattle.sig_terms.specs.declared.rules.Rules.{Rules}
+use Rattle.sig_terms.specs.declared.fault.PrepareFault.{PrepareFault}
+use Rattle.sig_terms.specs.declared.token.Token.{Token}
+use Rattle.sig_history.specs.Owed.{Sum, empty_sum, sum_of}
+use Rattle.sig_calls.specs.Proper.{is_proper_rules}
+use Rattle.sig_terms.specs.Reply.{Reply}
+use Rattle.sig_terms.specs.declared.fault.PrepareFault.TheVariants.{Number}
+use Rattle.sig_history.proofs.JoinLemmas.{joined}
+use Rattle.sig_calls.specs.Regular.{handed_by}
+use Rattle.sig_calls.specs.Table.{answer_of, change_of, over_top, prepared_of}
 use Rattle.sig_world.specs.declared.replayer.Replayer.{Replayer}
 use Rattle.sig_command.specs.declared.stop.Stop.TheVariants.{Line, Full}
 use Rattle.sig_command.specs.declared.stop.TellFault.{TellFault}
 use Rattle.sig_command.specs.declared.stop.TellFault.TheVariants.{Stopped, Memory}
-use Rattle.sig_world.specs.Script.{utf8_line}
+use Rattle.sig_script.specs.Script.{utf8_line}
 use Rattle.sig_command.specs.Telling.{StopsAt}
-use Rattle.sig_world.specs.World.{World, called, handed_by, heard_of, new_world, sum_in}
-use Rattle.sig_world.specs.Replay.{call_text, heard_text, played, played_call, played_delivery, played_found, replay_ends, replay_key, replay_rules, replay_telling, replay_trust, script_stop, script_text, script_world, sum_after}
+use Rattle.sig_law.specs.World.{World, call_recorded, heard_of, new_world, sum_in, with_facts, with_messages}
+use Rattle.sig_world.specs.Replay.{call_text, called, heard_text, played, played_call, played_delivery, played_found, replay_ends, replay_key, replay_rules, replay_telling, replay_trust, script_stop, script_text, script_world, sum_after}
 use Rattle.sig_world.specs.Replaying.{Goes, GoesNot, IsAt, StandsAt}
 use Rattle.sig_world.proofs.ReplayLemmas.{line-goes, line-stops}
 
@@ -43,19 +46,26 @@ record Found (rules : Rules) (sum : Sum) (c : Call) (now : ℕ) (answer : Answer
   pub answered : answer_of rules sum c now ≡ answer
   pub changed : change_of rules sum c now ≡ change
 
-abbrev ok : Told → Result Told PrepareFault
-ok t = Ok t
+abbrev replied : Answer → Option Fact → Reply
+replied answer change = record { answer = answer; change = change }
+
+abbrev ok : Reply → Result Reply PrepareFault
+ok r = Ok r
+
+abbrev by_over : Bool → Reply → Result Reply PrepareFault
+by_over over r = if over then Err (Number (LAST_NUMBER + 1)) else Ok r
 
 found : (rules : Rules) (sum : Sum) (c : Call) (now : ℕ) (answer : Answer) (change : Option Fact)
-    → prepared_of rules sum c now ≡ Ok (record { answer = answer; change = change }) → Found rules sum c now answer change
+    → prepared_of rules sum c now ≡ Ok (replied answer change) → Found rules sum c now answer change
 found rules sum c now answer change h = by_test (over_top rules sum c now) refl h
   where
-    by_test : (b : Bool) → over_top rules sum c now ≡ b → told_by b (answer_of rules sum c now) (change_of rules sum c now) ≡ ok (record { answer = answer; change = change })
+    by_test : (b : Bool) → over_top rules sum c now ≡ b
+        → by_over b (replied (answer_of rules sum c now) (change_of rules sum c now)) ≡ ok (replied answer change)
         → Found rules sum c now answer change
     by_test true e is = cc is
     by_test false e is =
-        let t : record { answer = answer_of rules sum c now; change = change_of rules sum c now } ≡ record { answer = answer; change = change } = cc is in
-        record { within = e; answered = ap (λ (x : Told). x.answer) t; changed = ap (λ (x : Told). x.change) t }
+        let t : replied (answer_of rules sum c now) (change_of rules sum c now) ≡ replied answer change = cc is in
+        record { within = e; answered = ap (λ (x : Reply). x.answer) t; changed = ap (λ (x : Reply). x.change) t }
 
 -- with one more fact, or none
 sum-on : (base : Sum) (fs : List Fact) (o : Option Fact) → sum_after (sum_of base fs) o ≡ sum_of base (fs ++ option_to_list o)
@@ -74,25 +84,24 @@ call-goes r r' w c number before answer change text text' at prepared count adde
     let within : over_top replay_rules (sum_in replay_ends w) c w.time ≡ false = ap (over_top replay_rules (sum_in replay_ends w) c) at.time ∙ f.within in
     let answered : answer_of replay_rules (sum_in replay_ends w) c w.time ≡ answer = ap (answer_of replay_rules (sum_in replay_ends w) c) at.time ∙ f.answered in
     let changed : change_of replay_rules (sum_in replay_ends w) c w.time ≡ change = ap (change_of replay_rules (sum_in replay_ends w) c) at.time ∙ f.changed in
-    let on : World = record {
-      facts = w.facts ++ option_to_list (change_of replay_rules (sum_in replay_ends w) c w.time);
-      journal = w.journal;
-      messages = w.messages ++ handed_by (answer_of replay_rules (sum_in replay_ends w) c w.time);
-      replies = w.replies;
-      time = w.time;
-    } in
+    let kept : List Fact = w.facts ++ option_to_list (change_of replay_rules (sum_in replay_ends w) c w.time) in
+    let handed : List Token = handed_by (answer_of replay_rules (sum_in replay_ends w) c w.time) in
+    let on : World = record { facts = kept; journal = w.journal; messages = w.messages ++ handed; replies = w.replies; time = w.time } in
     let goes : played_call number w c ≡ record {
       stop = None;
       text = call_text number (length w.messages) (answer_of replay_rules (sum_in replay_ends w) c w.time);
-      world = called replay_ends c w;
+      world = called w c;
     } = ap (λ b. if b
     then record { stop = Some (Full (LAST_NUMBER + 1)); text = []; world = w }
     else record {
       stop = None;
       text = call_text number (length w.messages) (answer_of replay_rules (sum_in replay_ends w) c w.time);
-      world = called replay_ends c w;
+      world = called w c;
     }) within in
-    let next : called replay_ends c w ≡ on = ap (λ b. if b then w else on) within in
+    let recorded : call_recorded replay_ends c w ≡ with_facts w kept = ap (λ b. if b then w else with_facts w kept) within in
+    let next : called w c ≡ on =
+    ap (λ b. if b then call_recorded replay_ends c w else with_messages (call_recorded replay_ends c w) ((call_recorded replay_ends c w).messages ++ handed)) within
+    ∙ ap (λ (v : World). with_messages v (v.messages ++ handed)) recorded in
     subst (λ p. Goes p r' text text') (sym goes) (record {
       going = refl;
       added = added ∙ ap (λ n. text ++ call_text number n answer) (count ∙ ap length at.messages) ∙ ap (λ a. text ++ call_text number (length w.messages) a) (sym answered);

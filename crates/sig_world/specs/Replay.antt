@@ -9,6 +9,8 @@ use Rattle.sig_subject.specs.declared.subject.Subject.TheVariants as subject
 use Rattle.sig_caep.specs.declared.kind.CaepKind.TheVariants as caep
 use Rattle.sig_event.specs.declared.event.Event.{Event}
 use Rattle.sig_event.specs.declared.event.Event.TheVariants as event
+use Rattle.sig_event.specs.declared.news.News.{News}
+use Rattle.sig_event.specs.News.{news}
 use Rattle.sig_receiver.specs.declared.heard.Heard.{Heard}
 use Rattle.sig_receiver.specs.declared.heard.Heard.TheVariants.{Accepted, Seen, NotTaken}
 use Rattle.sig_set.specs.declared.trust.Trust.{Trust}
@@ -16,26 +18,26 @@ use Rattle.sig_receiver.specs.Journal.{distinct}
 use Rattle.sig_receiver.specs.Printed.{table_text, yes_or_no}
 use Rattle.sig_set.specs.Spelled.{code_text, spot_text}
 use Rattle.sig_receiver.specs.Rows.{fold_rows}
-use Rattle.sig_outbox.specs.declared.want.Defaults.TheVariants as defaults
-use Rattle.sig_outbox.specs.declared.rules.Client.{Client}
-use Rattle.sig_outbox.specs.declared.rules.Rules.{Rules}
-use Rattle.sig_outbox.specs.declared.token.Token.{Token}
-use Rattle.sig_outbox.specs.declared.token.Issued.{Issued}
-use Rattle.sig_outbox.specs.declared.call.Call.{Call}
-use Rattle.sig_outbox.specs.declared.call.Call.TheVariants as call
-use Rattle.sig_outbox.specs.declared.answer.Answer.{Answer}
-use Rattle.sig_outbox.specs.declared.answer.Answer.TheVariants as answer
-use Rattle.sig_outbox.specs.declared.fact.Fact.{Fact}
-use Rattle.sig_outbox.specs.History.{Stream}
-use Rattle.sig_outbox.specs.Owed.{Sum, owed_count, sum_of}
-use Rattle.sig_outbox.specs.Table.{answer_of, over_top, publication_of}
-use Rattle.sig_world.specs.declared.script.ScriptLine.{ScriptLine}
-use Rattle.sig_world.specs.declared.script.ScriptLine.TheVariants as line
+use Rattle.sig_terms.specs.declared.want.Defaults.TheVariants as defaults
+use Rattle.sig_terms.specs.declared.rules.Client.{Client}
+use Rattle.sig_terms.specs.declared.rules.Rules.{Rules}
+use Rattle.sig_terms.specs.declared.token.Token.{Token}
+use Rattle.sig_terms.specs.declared.token.Issued.{Issued}
+use Rattle.sig_terms.specs.declared.call.Call.{Call}
+use Rattle.sig_terms.specs.declared.call.Call.TheVariants as call
+use Rattle.sig_terms.specs.declared.answer.Answer.{Answer}
+use Rattle.sig_terms.specs.declared.answer.Answer.TheVariants as answer
+use Rattle.sig_terms.specs.declared.fact.Fact.{Fact}
+use Rattle.sig_history.specs.Streams.{Stream, publication_of}
+use Rattle.sig_history.specs.Owed.{Sum, owed_count, sum_of}
+use Rattle.sig_calls.specs.Table.{answer_of, over_top}
 use Rattle.sig_command.specs.declared.stop.Stop.{Stop}
 use Rattle.sig_command.specs.declared.stop.Stop.TheVariants as stop
-use Rattle.sig_world.specs.Script.{script_line_of}
 use Rattle.sig_command.specs.Telling.{Telling}
-use Rattle.sig_world.specs.World.{Ends, World, Reply, new_world, called, delivered, sum_in, heard_of, settle_call}
+use Rattle.sig_law.specs.World.{Ends, World, Reply, new_world, call_recorded, call_told, delivery_recorded, delivery_told, sum_in, heard_of, settle_call}
+use Rattle.sig_script.specs.Script.{script_line_of}
+use Rattle.sig_script.specs.declared.script.ScriptLine.{ScriptLine}
+use Rattle.sig_script.specs.declared.script.ScriptLine.TheVariants as line
 
 -- ---- both ends
 
@@ -87,15 +89,20 @@ create_call client = call.Create client (record { requested = None; delivery = N
 abbrev pub poll_call : List ℕ → List ℕ → ℕ → Call
 poll_call client stream most = call.Poll client stream (record { max = Some most; acks = []; errors = [] })
 
--- the call that says that the session of an opaque subject is revoked (CAEP 1.0, section 3.1)
+-- a session was revoked, and no more is said (CAEP 1.0, section 3.1)
 abbrev pub revoked : Event
 revoked = event.Caep (record {
   common = record { event_timestamp = None; initiating_entity = None; reason_admin = None; reason_user = None };
   kind = caep.SessionRevoked;
 })
 
+-- the session of an opaque subject was (RFC 9493, section 3.2.4)
+abbrev pub news_of : List ℕ → News
+news_of name = news (subject.Simple (simple.Plain (plain.Opaque name))) revoked
+
+-- the call that says so
 abbrev pub publish_call : List ℕ → List ℕ → Call
-publish_call id name = call.Publish id (subject.Simple (simple.Plain (plain.Opaque name))) revoked
+publish_call id name = call.Publish id (news_of name)
 
 -- what stands at a place that is counted from 1
 abbrev pub counted_at : {T : Type 0} → ℕ → List T → Option T
@@ -165,6 +172,14 @@ pub record Played : Type 0 where
 abbrev pub refused : ℕ → World → Played
 refused number world = record { stop = Some (stop.Line number); text = []; world = world }
 
+-- what a call at the transmitter makes of the world: its fact is recorded, and what its answer hands out is told
+abbrev pub called : World → Call → World
+called world c = call_told replay_ends c world (call_recorded replay_ends c world)
+
+-- what a message that reaches the receiver makes of it
+abbrev pub delivered : World → Token → World
+delivered world m = delivery_told replay_ends (Some m) world (delivery_recorded replay_ends (Some m) world)
+
 -- a call at the transmitter; a number that is too great stops the script
 abbrev pub played_call : ℕ → World → Call → Played
 played_call number world c =
@@ -173,7 +188,7 @@ played_call number world c =
     else record {
       stop = None;
       text = call_text number (length world.messages) (answer_of replay_ends.rules (sum_in replay_ends world) c world.time);
-      world = called replay_ends c world;
+      world = called world c;
     }
 
 -- a publication; one whose id was used is refused
@@ -188,7 +203,7 @@ played_delivery number world None = refused number world
 played_delivery number world (Some m) = record {
   stop = None;
   text = heard_text number (length world.replies) (heard_of replay_ends world m);
-  world = delivered replay_ends world (Some m);
+  world = delivered world m;
 }
 
 -- an answer reaches the transmitter, where there is one

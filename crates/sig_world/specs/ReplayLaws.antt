@@ -2,7 +2,7 @@
 use Rattle.std.specs.Prelude.{◌≡◌, ℕ, List, [], ◌∷◌, ◌++◌, ◌+◌, Option, Some, None, is_none, refl, if◌then◌else◌}
 use Rattle.std.proofs.Common.{◌∙◌, ap, sym, append_assoc}
 use Rattle.sig_command.specs.declared.stop.Stop.{Stop}
-use Rattle.sig_world.specs.World.{World, new_world}
+use Rattle.sig_law.specs.World.{World, new_world}
 use Rattle.sig_world.specs.Replay.{played, script_stop, script_text, script_world}
 
 -- a line that doesn't stop the script, and then others
@@ -24,6 +24,9 @@ text-stops n w l ls s e = ap (λ (o : Option Stop). if is_none o then (played n 
 
 pub stop-stops : (n : ℕ) (w : World) (l : List ℕ) (ls : List (List ℕ)) (s : Stop) → (played n w l).stop ≡ Some s → script_stop n w (l ∷ ls) ≡ Some s
 stop-stops n w l ls s e = ap (λ (o : Option Stop). if is_none o then script_stop (n + 1) (played n w l).world ls else o) e
+
+pub world-stops : (n : ℕ) (w : World) (l : List ℕ) (ls : List (List ℕ)) (s : Stop) → (played n w l).stop ≡ Some s → script_world n w (l ∷ ls) ≡ w
+world-stops n w l ls s e = ap (λ (o : Option Stop). if is_none o then script_world (n + 1) (played n w l).world ls else w) e
 
 -- more lines print more
 pub text-grows : (n : ℕ) (w : World) (given more : List (List ℕ)) → (rest : List ℕ) × (script_text n w (given ++ more) ≡ script_text n w given ++ rest)

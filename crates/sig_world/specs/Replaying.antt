@@ -4,7 +4,7 @@ use Rattle.sig_receiver.specs.Receiver.{StandsFor}
 use Rattle.sig_world.specs.declared.replayer.Replayer.{Replayer}
 use Rattle.sig_command.specs.declared.stop.TellFault.{TellFault}
 use Rattle.sig_command.specs.declared.stop.TellFault.TheVariants as faults
-use Rattle.sig_world.specs.World.{World, new_world, sum_in}
+use Rattle.sig_law.specs.World.{World, new_world, sum_in}
 use Rattle.sig_world.specs.Replay.{Played, replay_ends, replay_rules, replay_trust, script_world}
 
 -- what the replay keeps is what the world comes to

@@ -1,15 +1,19 @@
 //! Laws over definitions: each is the contract of a function that does nothing.
 
-ghost use Rattle.sig_world.specs.Law.{HoldsOnEverySchedule, OnlyGrows};
+ghost use Rattle.sig_world.specs.Schedules.{EveryScriptIsLawful, ScriptsAreSchedules};
 
-/// Over every schedule of calls, deliveries and answers each message is a token that the transmitter made, each token
-/// that the receiver acknowledged stands in its journal, each token that the transmitter counts as acknowledged does
-/// too, each token in the journal is one that was made, with the same claims, and no token stands there twice.
-pub fn every_schedule()
-    ensures { HoldsOnEverySchedule }
+/// The world of a script is what a schedule makes of a new one: that of its lines' calls, deliveries and answers, up to the
+/// line that stops it.
+pub fn scripts_are_schedules()
+    ensures { ScriptsAreSchedules }
 {}
 
-/// Whatever happens, both histories only grow.
-pub fn histories_only_grow()
-    ensures { OnlyGrows }
-{}
+/// What holds over every schedule holds of every script's world: each message is a token that the transmitter made, each
+/// token that it counts as acknowledged stands in the receiver's journal, and each stream owes what was made for it and no
+/// later fact took off.
+pub fn every_script_is_lawful()
+    ensures { EveryScriptIsLawful }
+{
+    sig_law::laws::every_schedule();
+    sig_script::laws::publications_name_subjects();
+}

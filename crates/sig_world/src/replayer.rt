@@ -2,22 +2,21 @@
 
 ghost use Rattle.std.specs.Prelude.{◌≡◌, ◌++◌, IfOk, OnOk, option_map};
 ghost use Rattle.sig_set.specs.Spelled.{code_text};
-ghost use Rattle.sig_outbox.specs.Kept.{Ready};
-ghost use Rattle.sig_outbox.specs.Steps.{IsReady};
-ghost use Rattle.sig_world.specs.Replay.{counted_at, sum_after};
 ghost use Rattle.sig_event.specs.declared.event.Event.{Event};
+ghost use Rattle.sig_calls.specs.Regular.{handed_by};
+ghost use Rattle.sig_ledger.specs.Room.{Ready};
+ghost use Rattle.sig_outbox.specs.State.{IsReady};
+ghost use Rattle.sig_law.specs.World as world;
 ghost use Rattle.sig_world.specs.Replay as spec;
-ghost use Rattle.sig_world.specs.World as world;
-ghost use Rattle.sig_world.specs.World.{handed_by};
+ghost use Rattle.sig_world.specs.Replay.{counted_at, sum_after};
 
 use crate::replay_text::{add_call, add_heard};
 use crate::reply::Reply;
 use crate::running::print_owed;
-use crate::script::{ScriptLine, script_line};
 use crate::settings::{STORE_ID, replay_rules, replay_trust};
 use sig_caep::{CaepEvent, CaepKind, Common};
 use sig_command::{LinesEnd, Stop, TellFault, Teller};
-use sig_event::Event;
+use sig_event::{Event, News};
 use sig_fold::print_table;
 use sig_json::limits::SCRIPT_LINE_BYTES;
 use sig_json::{Bytes, Items, Memory, Text};
@@ -26,6 +25,7 @@ use sig_outbox::{
 };
 use sig_outside::Sink;
 use sig_receiver::{Heard, Receiver};
+use sig_script::{ScriptLine, script_line};
 use sig_set::{Code, Trust, signed_claims};
 use sig_subject::{Plain, Simple, Subject};
 use std::alloc::Global;
@@ -96,10 +96,11 @@ impl Replayer {
     ghost use Rattle.std.specs.Prelude.{◌≡◌, ◌<◌, ℕ, List, IfErr, IfOk, OnOk, Option, None, length};
     ghost use Rattle.sig_world.specs.Replay.{create_call, played, played_answer, played_call, played_delivery, played_line, played_publication, poll_call, counted_at};
     ghost use Rattle.sig_world.specs.Replaying.{Goes, GoesNot, IsAt};
-    ghost use Rattle.sig_world.specs.World.{World, new_world, sum_in};
     ghost use Rattle.sig_world.specs.Replay.{replay_ends, replay_rules};
-    ghost use Rattle.sig_outbox.specs.Steps.{IsReady, told};
-    ghost use Rattle.sig_outbox.specs.Table.{prepared_of};
+    ghost use Rattle.sig_law.specs.World.{World, new_world, sum_in};
+    ghost use Rattle.sig_calls.specs.Table.{prepared_of};
+    ghost use Rattle.sig_ledger.specs.Steps.{reply_in};
+    ghost use Rattle.sig_outbox.specs.State.{IsReady};
     ghost use Rattle.std.specs.Prelude.{Ok, Some};
 
     /// Both ends over new stores, at time 0, with the rules and the trust of scripts.
@@ -214,9 +215,8 @@ impl Replayer {
         if self.outbox.has_publication(&id) {
             return Err(refused(number));
         }
-        let subject = Subject::Simple(Simple::Plain(Plain::Opaque { id: subject }));
-        let event = Event::Caep(revoked());
-        self.call(number, &Call::Publish { id, subject, event }, text)
+        let news = news_of(subject);
+        self.call(number, &Call::Publish { id, news }, text)
     }
 
     fn answer(&mut self, number: u64, place: u64, text: &mut Bytes) -> Result<(), TellFault>
@@ -283,7 +283,7 @@ impl Replayer {
     fn take(&mut self, number: u64, step: Step, text: &mut Bytes) -> Result<(), Memory>
         requires { IsReady self.old.outbox step.change }
         ensures { OnOk result ((world : World) (call : Call) → IsAt self.old world
-            → prepared_of replay_rules (sum_in replay_ends world) call 0 ≡ Ok (told step)
+            → prepared_of replay_rules (sum_in replay_ends world) call 0 ≡ Ok (reply_in step)
             → Goes (played_call number world call) self.new text.old text.new) }
     {
         let Step { answer, change } = step;
@@ -296,6 +296,16 @@ impl Replayer {
         )?;
         commit(&mut self.outbox, change);
         keep_handed(&mut self.messages, answer)
+    }
+}
+
+// The session of an opaque subject was revoked (RFC 9493, section 3.2.4).
+fn news_of(name: Text) -> News
+    ensures { result ≡ spec.news_of name }
+{
+    News {
+        subject: Subject::Simple(Simple::Plain(Plain::Opaque { id: name })),
+        event: Event::Caep(revoked()),
     }
 }
 

@@ -10,7 +10,7 @@ pub struct Reply {
 }
 
 impl Model for Reply {
-    ghost use Rattle.sig_world.specs.World as world;
+    ghost use Rattle.sig_law.specs.World as world;
 
     ghost Value = { world.Reply };
 

@@ -3,7 +3,7 @@
 ghost use Rattle.std.specs.Prelude.{◌≡◌, [], ◌∷◌, IfOk};
 
 use crate::{Call, Outcome, PollAsk, Reported, Want};
-use sig_event::Event;
+use sig_event::{Event, News};
 use sig_json::{Items, Memory, Text, read};
 use sig_subject::{Plain, Simple, Subject};
 use std::alloc::Global;
@@ -65,8 +65,10 @@ pub fn publish(
 ) -> Result<Call, Fail> {
     Ok(Call::Publish {
         id: Text::of(alloc, id)?,
-        subject: opaque(alloc, subject)?,
-        event: event(alloc, uri, payload)?,
+        news: News {
+            subject: opaque(alloc, subject)?,
+            event: event(alloc, uri, payload)?,
+        },
     })
 }
 

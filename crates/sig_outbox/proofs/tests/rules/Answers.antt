@@ -1,5 +1,5 @@
 use Rattle.std.proofs.Common.{◌≡◌, ◌∙◌, ap, List, [], ◌∷◌, ◌++◌, is_ok, if◌then◌else◌}
-use Rattle.sig_outbox.specs.declared.rules.Client.{Client}
+use Rattle.sig_terms.specs.declared.rules.Client.{Client}
 use Rattle.sig_outbox.proofs.ProperLemmas.{proper_texts}
 use Rattle.sig_outbox.proofs.tests.rules.Goals as goal
 

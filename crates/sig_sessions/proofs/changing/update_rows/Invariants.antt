@@ -9,5 +9,6 @@ invariant-loop-update l = record {
   rest : updated_by (into_iter_items l.update-iterator) l.rows.items ≡ updated_by (into_iter_items l.initial.update-iterator) l.fn.rows.items;
   placed : ArePlaced (length l.rows.items) (into_iter_items l.update-iterator);
   ended : into_iter_len l.update-iterator ≡ length (into_iter_items l.update-iterator);
+  count : length l.rows.items ≡ length l.fn.rows.items;
   room : vec_capacity l.rows - vec_len l.rows ≡ vec_capacity l.fn.rows - vec_len l.fn.rows;
 }

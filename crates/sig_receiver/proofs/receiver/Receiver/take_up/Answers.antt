@@ -14,14 +14,14 @@ returns-then-known-clause-taken c =
     sym (known_text state c.args.text.now
     (ap (λ (x : Claims). has_pair (pair_of x) state.pairs) same ∙ sym c.knows-known.ensures.known ∙ c.if-known.true))
 
-pub returns-in-Ok-make_ready-clause-taken : goal.returns-in-Ok-make_ready-clause-taken
-returns-in-Ok-make_ready-clause-taken c =
+pub returns-clause-taken : goal.returns-clause-taken
+returns-clause-taken c =
     let state : Received = received c.args.self.now in
     let same : claims_of c.args.text.now ≡ c.in-Ok.claims = of_read _ _ c.in-Ok.claims c.in-Ok.ensures in
     let new : has_pair (pair_of (claims_of c.args.text.now)) state.pairs ≡ false =
     ap (λ (x : Claims). has_pair (pair_of x) state.pairs) same ∙ sym c.knows-known.ensures.known ∙ c.if-known.false in
     c.commit.ensures
-    ∙ ap (committed c.in-Ok-make_ready.ready) c.make_ready.ensures.same
-    ∙ c.in-Ok-make_ready.ensures.makes
+    ∙ ap (committed c.in_ok-ready.ready) c.in_ok-ready.ensures.same
+    ∙ c.in_ok-ready.ensures.makes
     ∙ ap (taken state) (c.knows-known.ensures.same ∙ sym same)
     ∙ sym (new_text state c.args.text.now new)

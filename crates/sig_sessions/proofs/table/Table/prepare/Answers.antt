@@ -18,16 +18,33 @@ returns-then-not-have_effect-clause-makes c =
     let is : c.of.result ≡ nothing = search rules in
     ap (λ (change : Changed). applied change rows) is ∙ append-nil rows ∙ sym (after_none c.args.claims.now.subject c.args.claims.now.events rows none)
 
+pub returns-then-found-clause-makes : goal.returns-then-found-clause-makes
+returns-then-found-clause-makes c =
+    let rows : List Row = c.args.self.now.rows in
+    let subject : Subject = c.args.claims.now.subject in
+    let events : List Event = c.args.claims.now.events in
+    let some : list_any has_effect events ≡ true = search rules in
+    let change : Changed = record { updates = c.in_ok-found.found.updates.items; added = None } in
+    let is : c.of-then-found.result ≡ change = search rules in
+    let changes : updated_by c.in_ok-found.found.updates.items rows ≡ map (changed_by_all_where_covered subject events) rows =
+    search (rules, c.in_ok-found.ensures.makes) in
+    let known : has_row subject rows ≡ true = search (rules, c.in_ok-found.ensures.known, c.if-found.true) in
+    ap (λ (change : Changed). applied change rows) is
+    ∙ made subject events rows c.in_ok-found.found.updates.items None some changes
+    (ap (λ b. if b then None else Some (changed_by_all_where_covered subject events (unseen subject))) (sym known))
+
 pub returns-clause-makes : goal.returns-clause-makes
 returns-clause-makes c =
     let rows : List Row = c.args.self.now.rows in
     let subject : Subject = c.args.claims.now.subject in
     let events : List Event = c.args.claims.now.events in
     let some : list_any has_effect events ≡ true = search rules in
-    let change : Changed = record { updates = c.in_ok-updates.updates.items; added = c.in_ok-added.added } in
+    let change : Changed = record { updates = c.in_ok-found.found.updates.items; added = Some c.in_ok-added.added } in
     let is : c.of-2.result ≡ change = search rules in
-    let changes : updated_by c.in_ok-updates.updates.items rows ≡ map (changed_by_all_where_covered subject events) rows =
-    search (rules, c.in_ok-updates.ensures.makes) in
-    let adds : c.in_ok-added.added ≡ (if has_row subject rows then None else Some (changed_by_all_where_covered subject events (unseen subject))) =
-    search (rules, c.in_ok-added.ensures) in
-    ap (λ (change : Changed). applied change rows) is ∙ made subject events rows c.in_ok-updates.updates.items c.in_ok-added.added some changes adds
+    let changes : updated_by c.in_ok-found.found.updates.items rows ≡ map (changed_by_all_where_covered subject events) rows =
+    search (rules, c.in_ok-found.ensures.makes) in
+    let known : has_row subject rows ≡ false = search (rules, c.in_ok-found.ensures.known, c.if-found.false) in
+    let row : c.in_ok-added.added ≡ changed_by_all_where_covered subject events (unseen subject) = search (rules, c.in_ok-added.ensures) in
+    ap (λ (change : Changed). applied change rows) is
+    ∙ made subject events rows c.in_ok-found.found.updates.items (Some c.in_ok-added.added) some changes
+    (ap Some row ∙ ap (λ b. if b then None else Some (changed_by_all_where_covered subject events (unseen subject))) (sym known))

@@ -1,5 +1,5 @@
 use Rattle.std.proofs.Common.{◌∙◌, ap}
-use Rattle.sig_outbox.specs.Sound.{is_proper_rules}
+use Rattle.sig_calls.specs.Proper.{is_proper_rules}
 use Rattle.sig_world.proofs.ReplayerLemmas.{proper}
 use Rattle.sig_world.proofs.replayer.Replayer.call.Goals as goal
 

@@ -3,7 +3,7 @@ use Rattle.sig_receiver.specs.Printed.{table_text}
 use Rattle.sig_command.specs.Moment.{output_state}
 use Rattle.sig_command.specs.Telling.{PutSo, WhyPut}
 use Rattle.sig_command.proofs.CountLemmas.{put_why-since}
-use Rattle.sig_world.specs.World.{new_world}
+use Rattle.sig_law.specs.World.{new_world}
 use Rattle.sig_world.specs.Replay.{end_text, owed_text, script_world}
 use Rattle.sig_world.proofs.OwedLines.{end-kept}
 use Rattle.sig_command.proofs.PutLemmas.{put_join, put_longer}

@@ -1,0 +1,10 @@
+pub mod OwedLemmas
+pub mod SettledLemmas
+pub mod CreatingLemmas
+pub mod PollingLemmas
+pub mod PublishingLemmas
+pub mod SettlingLemmas
+pub mod RegularLemmas
+pub mod ChangedLemmas
+pub mod NumberLemmas
+pub mod ReplyLemmas

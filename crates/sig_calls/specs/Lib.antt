@@ -1,0 +1,9 @@
+pub mod Told
+pub mod Creating
+pub mod Polling
+pub mod Publishing
+pub mod Settling
+pub mod Table
+pub mod Proper
+pub mod Regular
+pub mod Laws

@@ -1,0 +1,15 @@
+//! Laws over the definitions: each function's contract is the law, and nothing calls it.
+
+ghost use Rattle.sig_calls.specs.Laws.{NumberComesExactly};
+ghost use Rattle.sig_calls.specs.Regular.{CallsAreRegular};
+
+/// Under proper rules and over what a sound history came to, the fact of a proper call fits and is as the rules have it; its
+/// answer hands out only what the stream owes after the call; and it counts as acknowledged only what the call says was taken.
+pub fn calls_are_regular()
+    ensures { CallsAreRegular }
+{}
+
+/// Under proper rules a call is refused for its numbers exactly where its fact would give a stream or a token one above 2^62.
+pub fn number_comes_exactly()
+    ensures { NumberComesExactly }
+{}

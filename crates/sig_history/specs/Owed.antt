@@ -1,0 +1,97 @@
+-- What streams owe: of all the tokens made, those that no later fact takes off.
+use Rattle.std.specs.Prelude.{ℕ, List, [], ◌∷◌, ◌++◌, ◌==◌, Bool, false, not, ◌&&◌, bytes_eq, map, filter, length, Option, None, Some, if◌then◌else◌}
+use Rattle.std.specs.List.{list_any}
+use Rattle.sig_terms.specs.declared.fact.Fact.{Fact}
+use Rattle.sig_terms.specs.declared.fact.Fact.TheVariants.{Created, Published, Settled}
+use Rattle.sig_terms.specs.declared.fact.SettledItem.{SettledItem}
+use Rattle.sig_history.specs.Streams.{Stream, Parts, Made, stands, is_named}
+use Rattle.sig_history.specs.Facts.{made_by, parts_after, parts_of}
+
+-- what a history comes to: its parts, and beside each stream the tokens that it owes, in order of number
+pub record Sum : Type 0 where
+  pub parts : Parts
+  pub owed : List (List Made)
+
+-- a token of this stream
+abbrev pub is_of : List ℕ → Made → Bool
+is_of name t = bytes_eq t.stream name
+
+-- whether items name a number
+abbrev pub names_number : ℕ → List SettledItem → Bool
+names_number number items = list_any (λ (i : SettledItem). i.number == number) items
+
+-- whether a later fact takes a stream's token off: it was settled
+abbrev pub takes_off : List ℕ → Fact → Made → Bool
+takes_off name (Created conf time) t = false
+takes_off name (Published id news time) t = false
+takes_off name (Settled stream items) t = bytes_eq stream name && names_number t.number items
+
+-- the stream stands throughout, and no later fact takes the token off
+abbrev pub survives : List ℕ → Parts → List Fact → Made → Bool
+survives name parts [] t = stands name parts.streams
+survives name parts (f ∷ fs) t =
+    stands name parts.streams && (not (takes_off name f t) && survives name (parts_after parts f) fs t)
+
+-- of the tokens that the facts make for a stream, those that survive the later facts
+abbrev pub owed_of : List ℕ → Parts → List Fact → List Made
+owed_of name parts [] = []
+owed_of name parts (f ∷ fs) =
+    filter (survives name (parts_after parts f) fs) (filter (is_of name) (made_by parts f))
+    ++ owed_of name (parts_after parts f) fs
+
+-- what stands beside the stream of a name
+abbrev pub owed_in : List ℕ → List Stream → List (List Made) → List Made
+owed_in name [] owed = []
+owed_in name (s ∷ ss) [] = []
+owed_in name (s ∷ ss) (o ∷ os) = if is_named name s then o else owed_in name ss os
+
+-- what a stream owes after facts over a base
+abbrev pub owed_after : Sum → List Fact → List ℕ → List Made
+owed_after base facts name =
+    filter (survives name base.parts facts) (owed_in name base.parts.streams base.owed) ++ owed_of name base.parts facts
+
+-- what a history comes to
+abbrev pub sum_of : Sum → List Fact → Sum
+sum_of base facts = record {
+  parts = parts_of base.parts facts;
+  owed = map (λ (s : Stream). owed_after base facts s.conf.stream) (parts_of base.parts facts).streams;
+}
+
+-- a new store
+abbrev pub empty_sum : List ℕ → Sum
+empty_sum store_id = record {
+  parts = record { store_id = store_id; streams = []; created = []; published = [] };
+  owed = [];
+}
+
+-- what the stream of a name owes
+abbrev pub owed_by : Sum → List ℕ → List Made
+owed_by sum name = owed_in name sum.parts.streams sum.owed
+
+-- what it offers: all that it owes, since every stream is enabled so far
+abbrev pub offered_by : Sum → List ℕ → List Made
+offered_by sum name = owed_by sum name
+
+-- how many tokens the stream of a name owes, where it stands
+abbrev pub owed_count : Sum → List ℕ → Option ℕ
+owed_count sum name = if stands name sum.parts.streams then Some (length (owed_by sum name)) else None
+
+-- a token that was made, with the parts just after it and the facts that came later
+pub record Along : Type 0 where
+  pub token : Made
+  pub after : Parts
+  pub later : List Fact
+
+abbrev pub token_in : Along → Made
+token_in a = a.token
+
+-- all tokens that facts make, in order, each with what came later
+abbrev pub made_along : Parts → List Fact → List Along
+made_along parts [] = []
+made_along parts (f ∷ fs) =
+    map (λ (t : Made). record { token = t; after = parts_after parts f; later = fs }) (made_by parts f)
+    ++ made_along (parts_after parts f) fs
+
+-- it is a stream's, and no later fact took it off
+abbrev pub is_left : List ℕ → Along → Bool
+is_left name a = is_of name a.token && survives name a.after a.later a.token

@@ -1,0 +1,36 @@
+//! Laws over the definitions: each function's contract is the law, and nothing calls it.
+
+ghost use Rattle.sig_history.specs.Laws.{HistoriesJoin, OwedNumbersRise, OwesWhatIsLeft, SoundHistoriesAreWhole, SoundHistoriesJoin, StreamsAreSorted};
+
+/// A history may be taken up where an earlier part of it ended: the sum of both parts is that of the second over that of
+/// the first, whatever the base. So a checkpoint loses nothing.
+pub fn histories_join()
+    ensures { HistoriesJoin }
+{}
+
+/// Facts that fit, and then facts that fit what those came to, make a sound history, and no others do.
+pub fn sound_histories_join()
+    ensures { SoundHistoriesJoin }
+{}
+
+/// Of all tokens that facts make over a new store, a stream owes those of its own that no later fact takes off.
+pub fn owed_is_what_no_later_fact_takes_off()
+    ensures { OwesWhatIsLeft }
+{}
+
+/// A sound history over a base that is whole comes to what is whole: streams stand once and in order, and what each owes is
+/// its own, with numbers that rise.
+pub fn sound_histories_are_whole()
+    ensures { SoundHistoriesAreWhole }
+{}
+
+/// The streams of a sound history over a new store stand in order: each before the next by client name, and of one client
+/// by number.
+pub fn streams_stand_in_order()
+    ensures { StreamsAreSorted }
+{}
+
+/// The numbers of the tokens that a stream owes rise, after every sound history over a new store.
+pub fn owed_numbers_rise()
+    ensures { OwedNumbersRise }
+{}

@@ -1,0 +1,12 @@
+//! A transmitter's history: facts over a base, what they come to, and what each stream owes (OpenID Shared Signals Framework
+//! 1.0, sections 7 and 8).
+//!
+//! It stands on `sig_terms` for facts and configurations, and on `sig_set` for the size of a payload. It holds definitions
+//! and laws alone: `specs/Facts` says by its shape what a fact tells each stream, changes of it, brings and publishes;
+//! `specs/Owed` says what streams owe, found by filtering all tokens ever made; `specs/Sound` says which facts fit.
+//!
+//! Promised by `laws`: histories join; a stream owes what no later fact takes off; sound histories leave streams in order,
+//! each once, with owed numbers that rise. `sig_isolation` says what keeps clients apart.
+#![tactic(auto)]
+
+pub mod laws;

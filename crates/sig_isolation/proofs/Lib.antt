@@ -1,0 +1,4 @@
+pub mod OrderLemmas
+pub mod HistoryLemmas
+pub mod PartLemmas
+pub mod AnswerLemmas

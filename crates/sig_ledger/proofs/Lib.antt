@@ -1,0 +1,10 @@
+pub mod TextLemmas
+pub mod BalanceLemmas
+pub mod CountLemmas
+pub mod NameLemmas
+pub mod RoomLemmas
+pub mod PlaceLemmas
+pub mod FoundLemmas
+pub mod CreatedBooks
+pub mod PublishedBooks
+pub mod SettledBooks

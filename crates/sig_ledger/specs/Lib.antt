@@ -1,0 +1,4 @@
+pub mod Books
+pub mod Room
+pub mod Steps
+pub mod Places

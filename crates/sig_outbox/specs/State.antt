@@ -1,0 +1,15 @@
+-- The state of a transmitter as contracts see it.
+use Rattle.std.specs.Prelude.{Option, None, Some}
+use Rattle.sig_history.specs.Owed.{Sum}
+use Rattle.sig_history.specs.Sound.{Fits}
+use Rattle.sig_ledger.specs.Room.{HasRoom, Ready, Rooms}
+
+-- what the history came to, and for what there is room
+pub record State : Type 0 where
+  pub sum : Sum
+  pub room : Rooms
+
+-- a fact that fits, and for which there is room
+abbrev pub IsReady : State → Option Ready → Type 0
+IsReady s None = Unit {0}
+IsReady s (Some r) = Fits s.sum r.fact × HasRoom s.sum.parts s.room r

@@ -1,0 +1,19 @@
+//! What is kept of a place that was put.
+
+/// A key, and a place that was put under it.
+#[derive(Clone, Copy, Debug, PartialEq, Eq, Hash)]
+pub struct Entry {
+    /// The key.
+    pub key: u64,
+    /// The place.
+    pub place: usize,
+}
+
+/// How an entry stands among those of its key.
+#[derive(Clone, Copy, Debug, PartialEq, Eq, Hash)]
+pub(crate) struct Link {
+    /// The number of the one before it, counted from 1; 0 where it is the first.
+    pub previous: usize,
+    /// How many there are up to it.
+    pub count: u64,
+}

@@ -1,0 +1,126 @@
+ghost use Rattle.std.specs.Prelude.{◌≡◌, IfOk};
+
+use crate::StreamConf;
+use sig_event::News;
+use sig_json::{Copied, Items, Memory, Same, Text, copy_items, copy_optional};
+use std::alloc::Global;
+
+/// What happened at a transmitter: an item of its history.
+#[derive(Debug, PartialEq, Eq, Drop)]
+pub enum Fact {
+    /// A stream was made.
+    Created {
+        /// Its configuration.
+        conf: StreamConf,
+        /// When, in seconds since 1970, at most 2^62.
+        time: u64,
+    },
+    /// A publication made a token for each stream that was due.
+    Published {
+        /// The publication's own name.
+        id: Text,
+        /// What it says.
+        news: News,
+        /// When, in seconds since 1970, at most 2^62.
+        time: u64,
+    },
+    /// Tokens of a stream are owed no more.
+    Settled {
+        /// The stream's name.
+        stream: Text,
+        /// The tokens, in order of number.
+        items: Items<SettledItem>,
+    },
+}
+
+impl Fact {
+    /// An equal one.
+    pub fn copy(&self, alloc: Global) -> Result<Fact, Memory>
+        ensures { IfOk result (λ f. f ≡ self.now) }
+    {
+        match self {
+            Fact::Created { conf, time } => Ok(Fact::Created {
+                conf: conf.copy(alloc)?,
+                time: *time,
+            }),
+            Fact::Published { id, news, time } => Ok(Fact::Published {
+                id: id.copy(alloc)?,
+                news: news.copy(alloc)?,
+                time: *time,
+            }),
+            Fact::Settled { stream, items } => Ok(Fact::Settled {
+                stream: stream.copy(alloc)?,
+                items: copy_items(alloc, items)?,
+            }),
+        }
+    }
+}
+
+impl Copied for Fact {
+    fn copied(&self, alloc: Global) -> Result<Fact, Memory> {
+        self.copy(alloc)
+    }
+}
+
+impl Same for Fact {
+    fn same(&self, other: &Fact) -> bool {
+        match (self, other) {
+            (
+                Fact::Created { conf, time },
+                Fact::Created {
+                    conf: other_conf,
+                    time: other_time,
+                },
+            ) => conf.same(other_conf) && time.same(other_time),
+            (
+                Fact::Published { id, news, time },
+                Fact::Published {
+                    id: other_id,
+                    news: other_news,
+                    time: other_time,
+                },
+            ) => id.same(other_id) && news.same(other_news) && time.same(other_time),
+            (
+                Fact::Settled { stream, items },
+                Fact::Settled {
+                    stream: other_stream,
+                    items: other_items,
+                },
+            ) => stream.same(other_stream) && items.same(other_items),
+            _ => false,
+        }
+    }
+}
+
+/// A token that is owed no more.
+#[derive(Debug, PartialEq, Eq, Drop)]
+pub struct SettledItem {
+    /// Its number among the tokens of its stream.
+    pub number: u64,
+    /// Why its receiver refused it, where it did.
+    pub code: Option<Text>,
+}
+
+impl SettledItem {
+    /// An equal one.
+    pub fn copy(&self, alloc: Global) -> Result<SettledItem, Memory>
+        ensures { IfOk result (λ i. i ≡ self.now) }
+    {
+        Ok(SettledItem {
+            number: self.number,
+            code: copy_optional(alloc, &self.code)?,
+        })
+    }
+}
+
+impl Copied for SettledItem {
+    fn copied(&self, alloc: Global) -> Result<SettledItem, Memory> {
+        self.copy(alloc)
+    }
+}
+
+impl Same for SettledItem {
+    fn same(&self, other: &SettledItem) -> bool {
+        self.number.same(&other.number) && self.code.same(&other.code)
+    }
+}

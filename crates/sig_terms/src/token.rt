@@ -1,0 +1,76 @@
+ghost use Rattle.std.specs.Prelude.{◌≡◌, IfOk};
+
+use sig_event::Claims;
+use sig_json::{Copied, Memory, Same, Text};
+use std::alloc::Global;
+
+/// A token that a stream owes.
+#[derive(Debug, PartialEq, Eq, Drop)]
+pub struct Token {
+    /// The name of its stream.
+    pub stream: Text,
+    /// Its number among the tokens of its stream, from 1 to 2^62.
+    pub number: u64,
+    /// What it says.
+    pub claims: Claims,
+}
+
+/// A token that a publication made.
+#[derive(Debug, PartialEq, Eq, Drop)]
+pub struct Issued {
+    /// The name of its stream.
+    pub stream: Text,
+    /// Its number among the tokens of its stream, from 1 to 2^62.
+    pub number: u64,
+}
+
+impl Issued {
+    /// An equal one.
+    pub fn copy(&self, alloc: Global) -> Result<Issued, Memory>
+        ensures { IfOk result (λ i. i ≡ self.now) }
+    {
+        Ok(Issued {
+            stream: self.stream.copy(alloc)?,
+            number: self.number,
+        })
+    }
+}
+
+impl Copied for Issued {
+    fn copied(&self, alloc: Global) -> Result<Issued, Memory> {
+        self.copy(alloc)
+    }
+}
+
+impl Same for Issued {
+    fn same(&self, other: &Issued) -> bool {
+        self.stream.same(&other.stream) && self.number.same(&other.number)
+    }
+}
+
+impl Token {
+    /// An equal token.
+    pub fn copy(&self, alloc: Global) -> Result<Token, Memory>
+        ensures { IfOk result (λ t. t ≡ self.now) }
+    {
+        Ok(Token {
+            stream: self.stream.copy(alloc)?,
+            number: self.number,
+            claims: self.claims.copy(alloc)?,
+        })
+    }
+}
+
+impl Copied for Token {
+    fn copied(&self, alloc: Global) -> Result<Token, Memory> {
+        self.copy(alloc)
+    }
+}
+
+impl Same for Token {
+    fn same(&self, other: &Token) -> bool {
+        self.stream.same(&other.stream)
+            && self.number.same(&other.number)
+            && self.claims.same(&other.claims)
+    }
+}

@@ -1,0 +1,69 @@
+ghost use Rattle.std.specs.Prelude.{◌≡◌, IfOk};
+
+use crate::copying::copy_requested;
+use sig_json::{Copied, Items, Memory, Same, Text, copy_optional};
+use std::alloc::Global;
+
+/// Which subjects a stream has before any is added or removed (Shared Signals Framework 1.0, section 7.1).
+#[derive(Clone, Copy, Debug, PartialEq, Eq, Hash)]
+pub enum Defaults {
+    /// Every subject.
+    All,
+    /// No subject.
+    None,
+}
+
+impl Same for Defaults {
+    fn same(&self, other: &Defaults) -> bool {
+        match (self, other) {
+            (Defaults::All, Defaults::All) => true,
+            (Defaults::None, Defaults::None) => true,
+            _ => false,
+        }
+    }
+}
+
+/// How tokens reach a receiver (Shared Signals Framework 1.0, section 6.1).
+#[derive(Clone, Copy, Debug, PartialEq, Eq, Hash)]
+pub enum Delivery {
+    /// The receiver asks for them (RFC 8936).
+    Poll,
+}
+
+impl Same for Delivery {
+    fn same(&self, other: &Delivery) -> bool {
+        match (self, other) {
+            (Delivery::Poll, Delivery::Poll) => true,
+        }
+    }
+}
+
+/// What a receiver wants of a stream (Shared Signals Framework 1.0, section 8.1.1).
+#[derive(Debug, PartialEq, Eq, Drop)]
+pub struct Want {
+    /// The URIs of the event types that it asks for; none given asks for all.
+    pub requested: Option<Items<Text>>,
+    /// How tokens are to reach it; poll where none is given.
+    pub delivery: Option<Delivery>,
+    /// Its own words for the stream.
+    pub description: Option<Text>,
+}
+
+impl Want {
+    /// An equal one.
+    pub fn copy(&self, alloc: Global) -> Result<Want, Memory>
+        ensures { IfOk result (λ w. w ≡ self.now) }
+    {
+        Ok(Want {
+            requested: copy_requested(alloc, &self.requested)?,
+            delivery: self.delivery,
+            description: copy_optional(alloc, &self.description)?,
+        })
+    }
+}
+
+impl Copied for Want {
+    fn copied(&self, alloc: Global) -> Result<Want, Memory> {
+        self.copy(alloc)
+    }
+}

@@ -1,0 +1,17 @@
+//! The calls that make, hand out and settle tokens (RFC 8936, section 2; RFC 8935, section 2).
+//!
+//! It stands on `sig_ledger` for the state, and on `sig_calls` for how each call is answered: one file a call, and each
+//! public function answers by its line of that table.
+//!
+//! Promised: a call changes no book, answers by the table, and holds room for the fact that it makes. Left out: streams, which
+//! `sig_stream_calls` brings, and taking the fact in, which the ledger does.
+#![tactic(auto)]
+
+mod polling;
+mod publishing;
+mod settling;
+mod verdicts;
+
+pub use polling::poll;
+pub use publishing::publish;
+pub use settling::settle;
