@@ -1,16 +1,53 @@
 ghost use Rattle.std.specs.Prelude.{◌≡◌, IfOk};
 
 use crate::{Issued, StreamConf, Token};
-use sig_json::{Items, Memory, copy_items};
+use sig_event::Status;
+use sig_json::{Items, Memory, Text, copy_items};
 use std::alloc::Global;
 
 /// What the transmitter answers to a call.
 #[derive(Debug, PartialEq, Eq, Drop)]
 pub enum Answer {
+    /// What the transmitter offers is told from its rules.
+    Meta,
     /// The stream was made, and stands like this.
     Made {
         /// Its configuration.
         conf: StreamConf,
+    },
+    /// The stream stands like this, after the call.
+    Conf {
+        /// Its configuration.
+        conf: StreamConf,
+    },
+    /// The client's streams.
+    Confs {
+        /// Their configurations, in order of number.
+        confs: Items<StreamConf>,
+    },
+    /// The stream was deleted.
+    Gone,
+    /// The status of a stream, after the call.
+    State {
+        /// Its name.
+        stream: Text,
+        /// Its status.
+        status: Status,
+        /// Why, as the fact that set the status says.
+        reason: Option<Text>,
+        /// The number of the token that tells the receiver, where the call made one.
+        token: Option<u64>,
+    },
+    /// The subject is one of the stream's.
+    Added,
+    /// The subject is none of the stream's.
+    Removed,
+    /// A verification was made.
+    Asked {
+        /// The name of the stream.
+        stream: Text,
+        /// The number of its token.
+        number: u64,
     },
     /// The first tokens that the stream offers once the poll has settled what it names.
     Sets {
@@ -26,6 +63,16 @@ pub enum Answer {
         /// The tokens that it made, in order of client name and stream number.
         tokens: Items<Issued>,
     },
+    /// A round of pushes of this stream may begin.
+    Delivering {
+        /// Its name.
+        stream: Text,
+    },
+    /// The first tokens that push streams offer.
+    Handed {
+        /// The tokens, stream by stream and in order of number; at most a page of them.
+        tokens: Items<Token>,
+    },
     /// So many tokens were settled: 1, or 0 where the token isn't owed or the answer settles nothing.
     Settled {
         /// How many.
@@ -37,6 +84,13 @@ pub enum Answer {
     TooMany,
     /// The publication's name was used for another subject or event.
     Conflict,
+    /// The stream is disabled.
+    Disabled,
+    /// The last verification was too short a time ago.
+    Early {
+        /// When the next one may be asked for, in seconds since 1970.
+        until: u64,
+    },
     /// A token that it would make has a payload of more than 6,000 bytes.
     Long {
         /// The bytes of the largest.

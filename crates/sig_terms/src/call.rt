@@ -1,19 +1,104 @@
 ghost use Rattle.std.specs.Prelude.{◌≡◌, IfOk};
 
 use crate::Want;
-use sig_event::News;
+use sig_event::{News, Status};
 use sig_json::{Copied, Items, Memory, Text, copy_items};
+use sig_subject::Subject;
 use std::alloc::Global;
 
 /// A call at the transmitter.
 #[derive(Debug, PartialEq, Eq, Drop)]
 pub enum Call {
+    /// Somebody reads what the transmitter offers (Shared Signals Framework 1.0, section 7.1).
+    Metadata,
     /// A client makes a stream (Shared Signals Framework 1.0, section 8.1.1.1).
     Create {
         /// The client's name.
         client: Text,
         /// What it wants of the stream.
         want: Want,
+    },
+    /// A client reads the configurations of all its streams (section 8.1.1.2).
+    ReadAll {
+        /// The client's name.
+        client: Text,
+    },
+    /// A client reads the configuration of a stream (section 8.1.1.2).
+    Read {
+        /// The client's name.
+        client: Text,
+        /// The name of the stream.
+        stream: Text,
+    },
+    /// A client changes a part of the configuration of a stream (section 8.1.1.3).
+    Patch {
+        /// The client's name.
+        client: Text,
+        /// The name of the stream.
+        stream: Text,
+        /// What it wants changed; what isn't there stays.
+        want: Want,
+    },
+    /// A client replaces the configuration of a stream (section 8.1.1.4).
+    Put {
+        /// The client's name.
+        client: Text,
+        /// The name of the stream.
+        stream: Text,
+        /// What it wants; what isn't there takes the default.
+        want: Want,
+    },
+    /// A client deletes a stream (section 8.1.1.5).
+    Delete {
+        /// The client's name.
+        client: Text,
+        /// The name of the stream.
+        stream: Text,
+    },
+    /// A client reads the status of a stream (section 8.1.2.1).
+    GetStatus {
+        /// The client's name.
+        client: Text,
+        /// The name of the stream.
+        stream: Text,
+    },
+    /// A client sets the status of a stream (section 8.1.2.2).
+    SetStatus {
+        /// The client's name.
+        client: Text,
+        /// The name of the stream.
+        stream: Text,
+        /// The status to set.
+        status: Status,
+        /// Why.
+        reason: Option<Text>,
+    },
+    /// A client adds a subject to a stream (section 8.1.3.2).
+    Add {
+        /// The client's name.
+        client: Text,
+        /// The name of the stream.
+        stream: Text,
+        /// Whom.
+        subject: Subject,
+    },
+    /// A client removes a subject from a stream (section 8.1.3.3).
+    Remove {
+        /// The client's name.
+        client: Text,
+        /// The name of the stream.
+        stream: Text,
+        /// Whom.
+        subject: Subject,
+    },
+    /// A client asks for a verification of a stream (section 8.1.4.2).
+    Verify {
+        /// The client's name.
+        client: Text,
+        /// The name of the stream.
+        stream: Text,
+        /// What is to be sent back.
+        state: Option<Text>,
     },
     /// A client asks for tokens, and tells what became of earlier ones (RFC 8936, section 2).
     Poll {
@@ -30,6 +115,25 @@ pub enum Call {
         id: Text,
         /// What happened, and to whom.
         news: News,
+    },
+    /// The operator sets the status of a stream, and its receiver is told (Shared Signals Framework 1.0, section 8.1.5).
+    OperatorStatus {
+        /// The name of the stream.
+        stream: Text,
+        /// The status to set.
+        status: Status,
+        /// Why.
+        reason: Option<Text>,
+    },
+    /// The operator asks for a round of pushes of a stream.
+    Deliver {
+        /// The name of the stream.
+        stream: Text,
+    },
+    /// A round of pushes asks for the tokens that push streams offer (RFC 8935, section 2).
+    Hand {
+        /// The names of the streams.
+        streams: Items<Text>,
     },
     /// The answer to a token that was brought to its receiver (RFC 8935, section 2).
     Settle {

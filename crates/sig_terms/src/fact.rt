@@ -1,8 +1,9 @@
 ghost use Rattle.std.specs.Prelude.{◌≡◌, IfOk};
 
-use crate::StreamConf;
-use sig_event::News;
+use crate::{Delivery, StreamConf};
+use sig_event::{News, Status};
 use sig_json::{Copied, Items, Memory, Same, Text, copy_items, copy_optional};
+use sig_subject::Subject;
 use std::alloc::Global;
 
 /// What happened at a transmitter: an item of its history.
@@ -14,6 +15,49 @@ pub enum Fact {
         conf: StreamConf,
         /// When, in seconds since 1970, at most 2^62.
         time: u64,
+    },
+    /// A stream was configured anew.
+    Configured {
+        /// The stream's name.
+        stream: Text,
+        /// The URIs of the event types that it has from now on; none given has all.
+        requested: Option<Items<Text>>,
+        /// How its tokens reach the receiver from now on.
+        delivery: Delivery,
+        /// The receiver's own words for it.
+        description: Option<Text>,
+    },
+    /// The status of a stream was set.
+    StatusSet {
+        /// The stream's name.
+        stream: Text,
+        /// The status.
+        status: Status,
+        /// Why.
+        reason: Option<Text>,
+        /// Whether the operator set it, and so its receiver is told by a token.
+        operator: bool,
+        /// When, in seconds since 1970, at most 2^62.
+        time: u64,
+    },
+    /// A subject was put on a stream's list.
+    Listed {
+        /// The stream's name.
+        stream: Text,
+        /// Whom.
+        subject: Subject,
+    },
+    /// A subject was taken off a stream's list.
+    Unlisted {
+        /// The stream's name.
+        stream: Text,
+        /// Whom.
+        subject: Subject,
+    },
+    /// A stream was deleted.
+    Deleted {
+        /// The stream's name.
+        stream: Text,
     },
     /// A publication made a token for each stream that was due.
     Published {
@@ -30,6 +74,15 @@ pub enum Fact {
         stream: Text,
         /// The tokens, in order of number.
         items: Items<SettledItem>,
+    },
+    /// A verification of a stream was asked for, and made a token.
+    Asked {
+        /// The stream's name.
+        stream: Text,
+        /// What is sent back.
+        state: Option<Text>,
+        /// When, in seconds since 1970, at most 2^62.
+        time: u64,
     },
 }
 

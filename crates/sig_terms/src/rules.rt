@@ -3,6 +3,7 @@ ghost use Rattle.std.specs.Prelude.{◌≡◌, IfOk};
 use crate::Defaults;
 use sig_json::{Copied, Items, Memory, Text, copy_items};
 use sig_jws::Key;
+use sig_outside::Place;
 use std::alloc::Global;
 
 /// A client of the transmitter: a receiver that may have streams.
@@ -46,6 +47,8 @@ pub struct Rules {
     pub defaults: Defaults,
     /// Seconds between two verifications of a new stream at least, from 0 to 86,400.
     pub interval: u64,
+    /// Where links to `https` endpoints lead; with none, no such endpoint is taken.
+    pub gateway: Option<Place>,
     /// The bearer token of its operator.
     pub operator: Text,
     /// Its clients, each name once.

@@ -1,5 +1,6 @@
 ghost use Rattle.std.specs.Prelude.{◌≡◌, IfOk};
 
+use crate::Endpoint;
 use sig_event::Claims;
 use sig_json::{Copied, Memory, Same, Text};
 use std::alloc::Global;
@@ -13,6 +14,10 @@ pub struct Token {
     pub number: u64,
     /// What it says.
     pub claims: Claims,
+    /// Where it is sent, for a push stream.
+    pub endpoint: Option<Endpoint>,
+    /// The `authorization` field that it is sent with, where there is one.
+    pub authorization: Option<Text>,
 }
 
 /// A token that a publication made.

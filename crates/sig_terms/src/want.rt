@@ -24,18 +24,19 @@ impl Same for Defaults {
 }
 
 /// How tokens reach a receiver (Shared Signals Framework 1.0, section 6.1).
-#[derive(Clone, Copy, Debug, PartialEq, Eq, Hash)]
+#[derive(Debug, PartialEq, Eq, Drop)]
 pub enum Delivery {
     /// The receiver asks for them (RFC 8936).
     Poll,
-}
-
-impl Same for Delivery {
-    fn same(&self, other: &Delivery) -> bool {
-        match (self, other) {
-            (Delivery::Poll, Delivery::Poll) => true,
-        }
-    }
+    /// They are sent to the receiver (RFC 8935).
+    Push {
+        /// Where to.
+        endpoint: Endpoint,
+        /// The URL that spells it.
+        url: Text,
+        /// The `authorization` field that each request has, where it has one.
+        authorization: Option<Text>,
+    },
 }
 
 /// What a receiver wants of a stream (Shared Signals Framework 1.0, section 8.1.1).
