@@ -1,4 +1,4 @@
--- What a file tells whose last gate, and what stands behind it, are others.
+-- What a file tells whose last gate, and what stands after it, are others.
 use Rattle.std.proofs.Common.{◌≡◌, ℕ, suc, ◌+◌, ◌≤◌, ◌<◌, ◌^◌, List, [], ◌∷◌, ◌++◌, length, take, drop, Bool, true, false, cond, ◌&&◌, ◌==◌, nat_eq, nat_le, if◌then◌else◌, Option, Some, None, Result, Ok, Err, refl, sym, ◌∙◌, ap, subst, arith, append_assoc, length-append, length-take, length-drop, take-append-drop}
 use Rattle.std.proofs.lemmas.Bool.{le-leb, leb-true}
 use Rattle.std.proofs.lemmas.Bool.Decides.{nat_tests}
@@ -85,7 +85,7 @@ passes_header kind bytes none =
       size = c35.0;
     }
 
--- the header and the snapshot stand in the first bytes, whatever stands behind them
+-- the header and the snapshot stand in the first bytes, whatever stands after them
 header_again : (kind : Kind) (bytes rest : List ℕ) → IsHeader kind bytes
     → content_of kind (take (35 + snapshot_length bytes) bytes ++ rest)
     ≡ with_records (field 15 16 bytes) (field 35 (snapshot_length bytes) bytes) (records_of (length rest) (35 + snapshot_length bytes) rest)
@@ -135,7 +135,7 @@ abbrev pub added : Content → Result (List (List ℕ)) ℕ → Result Content �
 added content (Ok records) = Ok (record content { records = content.records ++ records })
 added content (Err at) = Err at
 
--- a file that is a journal: its bytes before its last gate, that gate and what stands behind it, and what it tells where these are others
+-- a file that is a journal: its bytes before its last gate, that gate and what stands after it, and what it tells where these are others
 pub record Whole (kind : Kind) (bytes : List ℕ) (content : Content) : Type 0 where
   pub front : List ℕ
   pub gate : ℕ
@@ -203,7 +203,7 @@ unfolding number_in_4
 length_again payload fits = from_be_bytes-to_be_bytes_4 (length payload) fits
 
 module _ (kind : Kind) (bytes : List ℕ) (content : Content) (w : Whole kind bytes content) where
-  -- whatever stands behind a closed gate has no part in what it tells
+  -- whatever stands after a closed gate has no part in what it tells
   pub closed_again : (gate : ℕ) (rest : List ℕ) → (gate == GATE_OPEN) ≡ false → content_of kind (w.front ++ gate ∷ rest) ≡ Ok content
   closed_again gate rest shut =
       w.again gate rest ∙ ap (added content) (records_end (length rest) (length w.front) gate rest w.near shut)

@@ -13,7 +13,7 @@ use Rattle.sig_journal.specs.Added.{Shows}
 use Rattle.sig_journal.specs.Store.{add_record}
 use Rattle.sig_journal.proofs.Fronts.{Whole, closed_again, gate_again, opened_again}
 
--- a write behind the first part leaves that part
+-- a write after the first part leaves that part
 pub written_behind : (at : ℕ) (first rest bytes : List ℕ) → at ≡ length first → with_bytes at bytes (first ++ rest) ≡ first ++ bytes ++ drop (length bytes) rest
 written_behind at first rest bytes is =
     let whole = first ++ rest in
@@ -47,10 +47,10 @@ torn_one at byte first rest image is torn =
     let found = first_other rest (drop at image) after some in
     (found.0, kept ∙ ap (λ (l : List ℕ). first ++ l) found.1)
 
--- a journal's file, in whose place of the last gate a record of this payload is added; end is the place behind that gate
+-- a journal's file, in whose place of the last gate a record of this payload is added; end is the place after that gate
 module _ (kind : Kind) (bytes : List ℕ) (content : Content) (w : Whole kind bytes content) (payload : List ℕ) (fits : length payload < 2 ^ 32) (end : ℕ) (ends : end ≡ end_of content)
     (room : end + 5 + length payload ≤ LAST_NUMBER) where
-  -- the file with the record behind a gate
+  -- the file with the record after a gate
   pub gated : ℕ → List ℕ
   gated gate = w.front ++ gate ∷ (framed_bytes payload ++ drop (length (framed_bytes payload)) w.rest)
 
@@ -76,7 +76,7 @@ module _ (kind : Kind) (bytes : List ℕ) (content : Content) (w : Whole kind by
       far : (place : ℕ) → place < LAST_NUMBER → nat_le LAST_NUMBER place ≡ false
       far place less = grind (arith, nat_tests)
 
-  -- the file shows what it showed, whatever was written behind its last gate
+  -- the file shows what it showed, whatever was written after its last gate
   pub behind_written : (written : List ℕ) → Shows kind bytes (with_bytes end written bytes) content
   behind_written written =
       let is : with_bytes end written bytes ≡ w.front ++ w.gate ∷ (written ++ drop (length written) w.rest) =

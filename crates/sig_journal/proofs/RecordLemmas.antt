@@ -45,7 +45,7 @@ pub record IsRecord (whole : List ℕ) : Type 0 where
 length-same : (first second : List ℕ) → 5 ≤ length first → record_length (first ++ second) ≡ record_length first
 length-same first second le = ap number_in_4 (field-append 1 4 first second (omega arith))
 
--- a whole record and a gate behind it are read
+-- a whole record and a gate after it are read
 record_here : (whole rest : List ℕ) → length whole ≡ 5 + record_length whole → 0 < length rest → record_at (whole ++ rest) ≡ Some (drop 5 whole, rest)
 record_here whole rest size some =
     let same : record_length (whole ++ rest) ≡ record_length whole = length-same whole rest (omega arith) in
@@ -111,7 +111,7 @@ fuel_enough (suc f) (suc g) place (gate ∷ rest) le le' =
     ap (λ (o : Result (List (List ℕ)) ℕ). cond (nat_le LAST_NUMBER place) (Err place) (cond (gate == GATE_OPEN) o (Ok [])))
     (next_same f g place (λ p b b_f b_g. fuel_enough f g p b b_f b_g) (record_at (gate ∷ rest)) (shrinks gate rest f (omega arith)) (shrinks gate rest g (omega arith)))
 
--- where all records are read, they stand before a closed gate, and whatever stands in the place of that gate and what is behind it is read after them
+-- where all records are read, they stand before a closed gate, and whatever stands in the place of that gate and what is after it is read after them
 pub record Stands (place : ℕ) (bytes : List ℕ) (records : List (List ℕ)) : Type 0 where
   pub front : List ℕ
   pub gate : ℕ
@@ -226,7 +226,7 @@ stands (suc fuel) place (gate ∷ rest) records is =
       ]
     ]
 
--- a whole record behind an open gate is the first of the records
+-- a whole record after an open gate is the first of the records
 pub found_record : (place : ℕ) (bytes : List ℕ) → nat_le LAST_NUMBER place ≡ false → is_open bytes ≡ true → 5 + record_length bytes < length bytes
     → records_of (length bytes) place bytes ≡ before_records (drop 5 (take (5 + record_length bytes) bytes))
     (records_of (length (drop (5 + record_length bytes) bytes)) (place + 5 + length (drop 5 (take (5 + record_length bytes) bytes))) (drop (5 + record_length bytes) bytes))

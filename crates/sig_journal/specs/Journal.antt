@@ -7,7 +7,7 @@ use Rattle.sig_journal.specs.declared.kind.Kind.{Kind}
 use Rattle.sig_journal.specs.Layout.{Content, end_of}
 use Rattle.sig_journal.specs.Store.{Told, tells}
 
--- the file in force, which records are added to, and the other one; whether the second file is in force; whose store it is; how many records stand behind the snapshot; the place behind the last gate; and whether a call failed
+-- the file in force, which records are added to, and the other one; whether the second file is in force; whose store it is; how many records stand after the snapshot; the place after the last gate; and whether a call failed
 pub record Open (D : Type 0) : Type 0 where
   pub written : D
   pub other : D

@@ -1,4 +1,4 @@
--- The layout of a journal's file: a header, a snapshot, and records behind their gates. Numbers are big-endian.
+-- The layout of a journal's file: a header, a snapshot, and records after their gates. Numbers are big-endian.
 --
 --     offset   bytes   content
 --     0        1       header gate
@@ -11,7 +11,7 @@
 --     35       n       snapshot
 --     35 + n   1       gate of the first record
 --
--- A record is its gate, its length m in four bytes and its payload of m bytes; behind them stands the gate of the next.
+-- A record is its gate, its length m in four bytes and its payload of m bytes; after them stands the gate of the next.
 use Rattle.std.specs.Prelude.{ℕ, zero, suc, ◌+◌, List, [], ◌∷◌, ◌++◌, length, take, drop, sum_by, Bool, false, ◌&&◌, ◌==◌, nat_eq, nat_le, nat_lt, Option, Some, None, Result, Ok, Err, if◌then◌else◌}
 use Rattle.std.specs.Option.{option_map_or}
 use Rattle.std.specs.Cmp.Lexicographic.{pointwise}
@@ -88,7 +88,7 @@ records_of (suc fuel) place (gate ∷ rest) =
     then option_map_or (λ found. before_records found.0 (records_of fuel (place + 5 + length found.0) found.1)) (record_at (gate ∷ rest)) (Err place)
     else Ok [])
 
--- what a file holds behind its header gate
+-- what a file holds after its header gate
 pub record Content : Type 0 where
   pub store_id : List ℕ
   pub snapshot : List ℕ
@@ -112,15 +112,15 @@ content_of kind bytes = content_by bytes (first_failing (header_checks kind byte
 abbrev pub records_size : List (List ℕ) → ℕ
 records_size records = sum_by (λ payload. 5 + length payload) records
 
--- the place behind the last gate
+-- the place after the last gate
 abbrev pub end_of : Content → ℕ
 end_of content = 36 + length content.snapshot + records_size content.records
 
--- the bytes of a record behind its gate, and the closed gate of the next
+-- the bytes of a record after its gate, and the closed gate of the next
 abbrev pub framed_bytes : List ℕ → List ℕ
 framed_bytes payload = to_be_bytes w32 (length payload) ++ payload ++ 0 ∷ []
 
--- the file of a new store behind its header gate: its first generation, without snapshot and record
+-- the file of a new store after its header gate: its first generation, without snapshot and record
 abbrev pub new_bytes : Kind → List ℕ → List ℕ
 new_bytes kind store_id =
     MAGIC ++ VERSION ∷ kind_byte kind ∷ 0 ∷ 0 ∷ 0 ∷ 0 ∷ 0 ∷ 0 ∷ 0 ∷ 0 ∷ [] ++ store_id ++ 0 ∷ 0 ∷ 0 ∷ 0 ∷ 0 ∷ []

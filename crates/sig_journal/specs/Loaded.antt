@@ -17,7 +17,7 @@ Reads told (Err fault) = (fault ≡ Memory) ⊎ (fault ≡ Store) ⊎ (told ≡ 
 abbrev pub found_view : Found → Told
 found_view found = record { in_b = found.in_b; content = content_view found.content }
 
--- the places of what was found: of the gates of its records, and behind the last gate
+-- the places of what was found: of the gates of its records, and after the last gate
 pub record HasPlaces (found : Found) : Type 0 where
   pub ends : found.content.end ≡ end_of (content_view found.content)
   pub gates : found.content.places ≡ places_of (35 + length found.content.snapshot) found.content.records

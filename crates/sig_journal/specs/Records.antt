@@ -4,7 +4,7 @@ use Rattle.sig_journal.specs.declared.records.Next.{Next}
 use Rattle.sig_journal.specs.declared.records.Next.TheVariants.{End, Damaged, Record}
 use Rattle.sig_journal.specs.Layout.{before_records, records_of}
 
--- a record and the bytes behind it, nothing more, or damage
+-- a record and the bytes after it, nothing more, or damage
 pub data Found : Type 0 where
   Nothing : Found
   Bad : Found

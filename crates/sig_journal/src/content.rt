@@ -12,7 +12,7 @@ use crate::{Kind, LoadFault};
 use sig_json::{Bytes, Items};
 use std::alloc::Global;
 
-/// What a file holds, with the places of the gates of its records and the place behind the last gate.
+/// What a file holds, with the places of the gates of its records and the place after the last gate.
 #[derive(Debug, Drop)]
 pub struct FileContent {
     pub store_id: [u8; 16],

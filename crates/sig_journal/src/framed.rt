@@ -5,7 +5,7 @@ use sig_json::Memory;
 use std::alloc::Global;
 use std::marker::Model;
 
-/// A record as it is written behind its gate: its length, its payload and the closed gate of the next. Contracts see it as
+/// A record as it is written after its gate: its length, its payload and the closed gate of the next. Contracts see it as
 /// its payload.
 #[derive(Debug, Drop)]
 pub struct Framed {

@@ -16,7 +16,7 @@ use thiserror::Error;
 /// A journal that is open.
 ///
 /// Contracts see its files, the one in force and the other; which of them is in force; its kind; how many records stand
-/// behind the snapshot; the place behind the last gate; and whether a call failed. Unless one did, both files are what a
+/// after the snapshot; the place after the last gate; and whether a call failed. Unless one did, both files are what a
 /// crash would leave.
 pub struct Journal<D: Disk> {
     pub(crate) written: D,
@@ -98,14 +98,14 @@ impl<D: Disk> Journal<D> {
         self.broken
     }
 
-    /// How many records stand behind the snapshot in the file in force.
+    /// How many records stand after the snapshot in the file in force.
     pub fn records(&self) -> u64
         ensures { result ≡ self.now.records }
     {
         self.records
     }
 
-    /// The place behind the last gate.
+    /// The place after the last gate.
     pub fn end(&self) -> u64
         ensures end { result ≡ self.now.end }
         ensures bound { result ≤ LAST_NUMBER }

@@ -1,7 +1,7 @@
 /// An open gate. Any other value is a closed one.
 pub const GATE_OPEN: u8 = 0x5a;
 
-/// What stands behind the header gate of each file of a journal.
+/// What stands after the header gate of each file of a journal.
 pub const MAGIC: [u8; 4] = *b"SIGJ";
 
 /// The version of the layout.

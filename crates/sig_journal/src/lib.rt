@@ -1,15 +1,15 @@
 //! A journal of records over the two files of a store, one of which is in force.
 //!
-//! It stands on `sig_json` and `sig_outside`. A file is a header, a snapshot and records; each record stands behind a gate
+//! It stands on `sig_json` and `sig_outside`. A file is a header, a snapshot and records; each record stands after a gate
 //! of one byte, and a closed gate ends them (`specs/Layout` has the table):
 //!
 //! ```text
 //!     | gate | header | snapshot | open gate | length | payload | open gate | length | payload | closed gate | no meaning
-//!       ^ open in the file in force                                            `end` is the place behind it ^
+//!       ^ open in the file in force                                             `end` is the place after it ^
 //! ```
 //!
-//! `append` writes length, payload and the closed gate of the next record behind the closed gate that stands last, syncs,
-//! opens that gate by a write of its own, and syncs. So no checksum is trusted: a torn write lies behind a closed gate or is
+//! `append` writes length, payload and the closed gate of the next record after the closed gate that stands last, syncs,
+//! opens that gate by a write of its own, and syncs. So no checksum is trusted: a torn write lies after a closed gate or is
 //! the gate alone.
 //!
 //! Promised: at `Ok` of `append` no crash takes the record away, and at any moment before a crash leaves what the store told

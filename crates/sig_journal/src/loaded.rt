@@ -16,7 +16,7 @@ use sig_outside::Disk;
 use std::alloc::Global;
 
 /// A store that was loaded: its journal, the number of the file in force (0 for the first), the store's name, the snapshot,
-/// and the records behind it with the places of their gates.
+/// and the records after it with the places of their gates.
 pub struct Loaded<D: Disk> {
     pub journal: Journal<D>,
     pub file: u8,

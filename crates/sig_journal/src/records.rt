@@ -22,7 +22,7 @@ pub struct Records {
     pub last: u64,
 }
 
-/// What stands at a gate: nothing more, a record and the bytes behind it, or damage.
+/// What stands at a gate: nothing more, a record and the bytes after it, or damage.
 #[derive(Clone, Copy)]
 pub enum Next<'a> {
     End,

@@ -86,9 +86,10 @@ put_newest es e = record {
 
 pub put_chained : (newest newer : ℕ → Option ℕ) (es : List Entry) (ls : List Link) (e : Entry) (l : Link) → IsChained newest es ls
     → ((key : ℕ) → newer key ≡ cond (nat_eq e.key key) (Some (length es + 1)) (newest key)) → l.previous ≡ unwrap_or (newest e.key) 0
+    → l.count ≡ length (places_of e.key es) + 1
     → IsChained newer (es ++ e ∷ []) (ls ++ l ∷ [])
-put_chained newest newer es ls e l chained updates previous = record {
-  linked = record { each = each; previous = links };
+put_chained newest newer es ls e l chained updates previous number = record {
+  linked = record { each = each; previous = links; count = counts };
   heads = heads;
 }
   where
@@ -134,3 +135,81 @@ put_chained newest newer es ls e l chained updates previous = record {
 
     links : (i : ℕ) (d : Entry) (x : Link) → i < length (es ++ e ∷ []) → IsNewest (get_or (es ++ e ∷ []) i d).key (get_or (ls ++ l ∷ []) i x).previous i (es ++ e ∷ [])
     links i d x within = by_place i d x (nat_eq i (length es)) refl (omega (arith, within, count))
+
+    last_key : (d : Entry) → (get_or (es ++ e ∷ []) (length es) d).key ≡ e.key
+    last_key d = ap (λ (y : Entry). y.key) (get_or-append_seam es e [] d)
+
+    last_places : places_of e.key (take (length es + 1) (es ++ e ∷ [])) ≡ e.place ∷ places_of e.key es
+    last_places =
+        ap (λ n. places_of e.key (take n (es ++ e ∷ []))) (sym count)
+        ∙ ap (places_of e.key) (take-length (es ++ e ∷ []))
+        ∙ places_more e.key es e
+        ∙ ap (λ p. p ++ places_of e.key es) (under_own e.key e refl)
+
+    last_count : (d : Entry) (x : Link) → (get_or (ls ++ l ∷ []) (length es) x).count ≡ length (places_of (get_or (es ++ e ∷ []) (length es) d).key (take (length es + 1) (es ++ e ∷ [])))
+    last_count d x =
+        ap (λ n. (get_or (ls ++ l ∷ []) n x).count) (sym chained.linked.each)
+        ∙ ap (λ (y : Link). y.count) (get_or-append_seam ls l [] x)
+        ∙ number
+        ∙ omega arith
+        ∙ sym (ap length last_places)
+        ∙ ap (λ k. length (places_of k (take (length es + 1) (es ++ e ∷ [])))) (sym (last_key d))
+
+    earlier_count : (i : ℕ) (d : Entry) (x : Link) → i < length es
+        → (get_or (ls ++ l ∷ []) i x).count ≡ length (places_of (get_or (es ++ e ∷ []) i d).key (take (i + 1) (es ++ e ∷ [])))
+    earlier_count i d x within =
+        ap (λ (y : Link). y.count) (get_or_append_left ls (l ∷ []) x i (omega (arith, within, chained.linked.each)))
+        ∙ chained.linked.count i d x within
+        ∙ ap (λ (y : Entry). length (places_of y.key (take (i + 1) es))) (sym (get_or_append_left es (e ∷ []) d i within))
+        ∙ ap (λ (front : List Entry). length (places_of (get_or (es ++ e ∷ []) i d).key front)) (sym (take-append-le (i + 1) es (e ∷ []) (omega (arith, within))))
+
+    count_at : (i : ℕ) (d : Entry) (x : Link) (b : Bool) → nat_eq i (length es) ≡ b → i < length es + 1
+        → (get_or (ls ++ l ∷ []) i x).count ≡ length (places_of (get_or (es ++ e ∷ []) i d).key (take (i + 1) (es ++ e ∷ [])))
+    count_at i d x true is within =
+        subst (λ n. (get_or (ls ++ l ∷ []) n x).count ≡ length (places_of (get_or (es ++ e ∷ []) n d).key (take (n + 1) (es ++ e ∷ [])))) (sym (eqb-true i (length es) is)) (last_count d x)
+    count_at i d x false is within =
+        let differs = eqb-false i (length es) is in
+        earlier_count i d x (omega (arith, within, differs))
+
+    counts : (i : ℕ) (d : Entry) (x : Link) → i < length (es ++ e ∷ [])
+        → (get_or (ls ++ l ∷ []) i x).count ≡ length (places_of (get_or (es ++ e ∷ []) i d).key (take (i + 1) (es ++ e ∷ [])))
+    counts i d x within = count_at i d x (nat_eq i (length es)) refl (omega (arith, within, count))
+
+-- ---- how many are under a key
+
+-- a key has no more places than there are entries
+pub places_within : (key : ℕ) (es : List Entry) → length (places_of key es) ≤ length es
+places_within key [] = omega arith
+places_within key (e ∷ es) =
+    let rest = places_within key es in
+    let one = under_within (nat_eq e.key key) in
+    let sum = length-append (places_of key es) (place_under key e) in
+    omega (arith, rest, one, sum)
+  where
+    under_within : (b : Bool) → length (if b then e.place ∷ [] else []) ≤ 1
+    under_within true = omega arith
+    under_within false = omega arith
+
+-- a key has no place where nothing leads to one
+pub none_counted : (newest : ℕ → Option ℕ) (es : List Entry) (ls : List Link) (key : ℕ) → IsChained newest es ls → unwrap_or (newest key) 0 ≡ 0
+    → length (places_of key es) ≡ 0
+none_counted newest es ls key chained none =
+    ap (λ (l : List Entry). length (places_of key l)) (sym (take-length es))
+    ∙ ap length (chained.heads key).all
+    ∙ ap (λ n. length (places_of key (take n es))) none
+
+-- the link of a key's newest entry counts all of its places
+pub counted : (newest : ℕ → Option ℕ) (es : List Entry) (ls : List Link) (key : ℕ) (x : Link) → IsChained newest es ls → 0 < unwrap_or (newest key) 0
+    → (get_or ls (unwrap_or (newest key) 0 - 1) x).count ≡ length (places_of key es)
+counted newest es ls key x chained some =
+    let number : ℕ = unwrap_or (newest key) 0 in
+    let head : IsNewest key number (length es) es = chained.heads key in
+    let at : ℕ = number - 1 in
+    let is : at + 1 ≡ number = omega (arith, some) in
+    let d : Entry = record { key = key; place = 0 } in
+    let own : (get_or es at d).key ≡ key = head.own some d in
+    chained.linked.count at d x (omega (arith, some, head.within))
+    ∙ ap (λ k. length (places_of k (take (at + 1) es))) own
+    ∙ ap (λ n. length (places_of key (take n es))) is
+    ∙ ap length (sym head.all)
+    ∙ ap (λ (l : List Entry). length (places_of key l)) (take-length es)

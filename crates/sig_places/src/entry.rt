@@ -14,6 +14,6 @@ pub struct Entry {
 pub(crate) struct Link {
     /// The number of the one before it, counted from 1; 0 where it is the first.
     pub previous: usize,
-    /// How many there are up to it.
-    pub count: u64,
+    /// How many of its key there are up to it, itself among them.
+    pub count: usize,
 }

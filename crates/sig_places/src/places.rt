@@ -34,6 +34,7 @@ impl Model for Places {
 }
 
 impl Places {
+    ghost use Rattle.std.specs.Prelude.{length};
     ghost use Rattle.sig_places.specs.Places.{places_of};
 
     /// None yet. It takes no memory.
@@ -59,20 +60,15 @@ impl Places {
         )
     }
 
-    /// How many places are under a key, for a choice between keys. It takes no memory.
-    pub fn count(&self, key: u64) -> u64 {
-        match number_of(&self.newest, key).checked_sub(1) {
-            Some(at) => self.count_at(at),
-            None => 0,
+    /// How many places are under a key. It takes no memory.
+    pub fn count(&self, key: u64) -> usize
+        ensures { result ≡ length (places_of key self.now.entries) }
+    {
+        let number = number_of(&self.newest, key);
+        if number == 0 {
+            return 0;
         }
-    }
-
-    // How many places are under the key of an entry, up to that entry.
-    fn count_at(&self, at: usize) -> u64 {
-        match self.links.get(at) {
-            Some(link) => link.count,
-            None => 0,
-        }
+        self.links[number - 1].count
     }
 
     /// Makes room for so many more. Out of memory is its only error.
@@ -106,7 +102,7 @@ impl Places {
         ensures put { self.new.entries ≡ self.old.entries ++ record { key = key; place = place } ∷ [] }
         ensures room { self.old.room ≤ self.new.room + 1 }
     {
-        let count = self.count(key).saturating_add(1);
+        let count = self.count(key) + 1;
         // There is room, so no memory is asked for, and nothing of this can be refused.
         let _ = self.entries.push(Entry { key, place });
         let earlier = self.newest.insert(key, self.entries.len()).unwrap();
