@@ -1,5 +1,5 @@
 -- Covering is reflexive on proper subjects and transitive, and matching is symmetric on proper ones.
-use Rattle.std.proofs.Common.{◌≡◌, ◌||◌, ◌&&◌, ◌⊎◌, ℕ, List, [], ◌∷◌, Bool, true, false, bytes_eq, Option, Some, None, if◌then◌else◌, inl, inr, refl, sym, ap, subst, ◌∙◌}
+use Rattle.std.proofs.Common.{◌≡◌, ◌||◌, ◌&&◌, ◌⊎◌, ℕ, List, [], ◌∷◌, Bool, true, false, bytes_eq, Option, Some, None, cond, find, option_map, inl, inr, refl, sym, ap, subst, ◌∙◌}
 use Rattle.std.specs.List.{list_any}
 use Rattle.std.proofs.lemmas.Bool.{and_parts}
 use Rattle.sig_subject.proofs.Identity.{simple_same, simple_sound, text_sound}
@@ -45,7 +45,7 @@ found_agrees missing n s (m ∷ xs) ys found all =
     let both = and_parts (agrees missing m.simple (part_named m.name ys)) (all_agree missing xs ys) all in
     by_name (bytes_eq n m.name) refl found both.0 (λ h. found_agrees missing n s xs ys h both.1)
   where
-    by_name : (b : Bool) → bytes_eq n m.name ≡ b → (if b then Some m.simple else part_named n xs) ≡ Some s → agrees missing m.simple (part_named m.name ys) ≡ true
+    by_name : (b : Bool) → bytes_eq n m.name ≡ b → option_map (λ (x : Member). x.simple) (cond b (Some m) (find (λ (x : Member). bytes_eq n x.name) xs)) ≡ Some s → agrees missing m.simple (part_named m.name ys) ≡ true
         → (part_named n xs ≡ Some s → agrees missing s (part_named n ys) ≡ true) → agrees missing s (part_named n ys) ≡ true
     by_name true e is here more =
         let named : part_named n ys ≡ part_named m.name ys = ap (λ k. part_named k ys) (text_sound n m.name e) in
@@ -70,7 +70,7 @@ pub found_any : (a s : Simple) (n : List ℕ) (zs : List Member) → same_simple
 found_any a s n [] same found = cc
 found_any a s n (m ∷ zs) same found = by_name (bytes_eq n m.name) found (λ h. found_any a s n zs same h)
   where
-    by_name : (b : Bool) → (if b then Some m.simple else part_named n zs) ≡ Some s → (part_named n zs ≡ Some s → list_any (λ (m : Member). same_simple a m.simple) zs ≡ true)
+    by_name : (b : Bool) → option_map (λ (x : Member). x.simple) (cond b (Some m) (find (λ (x : Member). bytes_eq n x.name) zs)) ≡ Some s → (part_named n zs ≡ Some s → list_any (λ (m : Member). same_simple a m.simple) zs ≡ true)
         → same_simple a m.simple || list_any (λ (m : Member). same_simple a m.simple) zs ≡ true
     by_name true is more = or_left _ _ (ap (same_simple a) (some_same m.simple s is) ∙ same)
     by_name false is more = or_right _ _ (more is)

@@ -1,5 +1,5 @@
 -- The formats of subject identifiers (RFC 9493, section 3.2; OpenID Shared Signals Framework 1.0, section 4).
-use Rattle.std.specs.Prelude.{ℕ, List, [], ◌∷◌, bytes_eq, codes, if◌then◌else◌}
+use Rattle.std.specs.Prelude.{ℕ, List, [], ◌∷◌, bytes_eq, codes, find, option_map, unwrap_or}
 use Rattle.sig_subject.specs.declared.format.Format.{Format}
 use Rattle.sig_subject.specs.declared.format.Format.TheVariants.{Plain, Aliases, Complex}
 use Rattle.sig_subject.specs.declared.format.PlainFormat.{PlainFormat}
@@ -24,8 +24,7 @@ formats =
 
 -- the format of a name; any other name is an unknown format
 abbrev pub format_in : List ℕ → List (List ℕ × Format) → Format
-format_in name [] = Plain Unknown
-format_in name (f ∷ fs) = if bytes_eq name f.0 then f.1 else format_in name fs
+format_in name table = unwrap_or (option_map (λ (f : List ℕ × Format). f.1) (find (λ (f : List ℕ × Format). bytes_eq name f.0) table)) (Plain Unknown)
 
 -- a required text, and what it begins with
 pub record Field : Type 0 where

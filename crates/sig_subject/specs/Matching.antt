@@ -1,6 +1,6 @@
 -- When subjects are identical, match, or one covers the other (OpenID Shared Signals Framework 1.0, section 4, for matching of complex
 -- subjects; covering is this project's own).
-use Rattle.std.specs.Prelude.{◌≡◌, ◌↔◌, ◌&&◌, ℕ, List, [], ◌∷◌, Bool, true, false, Option, Some, None, IsTrue, bytes_eq, if◌then◌else◌}
+use Rattle.std.specs.Prelude.{◌≡◌, ◌↔◌, ◌&&◌, ℕ, List, [], ◌∷◌, Bool, true, false, Option, Some, None, IsTrue, bytes_eq, find, option_map}
 use Rattle.std.specs.List.{list_all, list_any}
 use Rattle.sig_subject.specs.declared.plain.Plain.{Plain}
 use Rattle.sig_subject.specs.declared.plain.Plain.TheVariants as plain
@@ -52,8 +52,7 @@ DecidesIdentity = (a b : Subject) → IsTrue (is_identical a b) ↔ (a ≡ b)
 
 -- the part of this name
 abbrev pub part_named : List ℕ → List Member → Option Simple
-part_named name [] = None
-part_named name (m ∷ ms) = if bytes_eq name m.name then Some m.simple else part_named name ms
+part_named name members = option_map (λ (m : Member). m.simple) (find (λ (m : Member). bytes_eq name m.name) members)
 
 -- the other part is identical; where it isn't there, this answer
 abbrev pub agrees : Bool → Simple → Option Simple → Bool

@@ -1,6 +1,6 @@
 -- How a subject is written as a JSON value, and which subjects are proper (RFC 9493, section 3; OpenID Shared Signals Framework 1.0,
 -- section 4).
-use Rattle.std.specs.Prelude.{◌≡◌, ◌≤◌, ℕ, List, [], ◌∷◌, map, Some, Ok, codes, unwrap_or}
+use Rattle.std.specs.Prelude.{◌≡◌, ◌≤◌, ℕ, List, [], ◌∷◌, map, Some, Ok, codes, fold, unwrap_or}
 use Rattle.serde_json.specs.Data.{Data, null, string, array, object, Members, no_members, put, depth}
 use Rattle.serde_json.specs.Read.{max_depth}
 use Rattle.serde_json.specs.View.{items_of}
@@ -20,8 +20,7 @@ use Rattle.sig_subject.specs.Subjects.{SubjectIs}
 
 -- members put in one after another
 abbrev pub put_all : Members → List (List ℕ × Data) → Members
-put_all ms [] = ms
-put_all ms (f ∷ fs) = put_all (put f.0 f.1 ms) fs
+put_all members fs = fold (λ ms (f : List ℕ × Data). put f.0 f.1 ms) members fs
 
 -- an object of this format (RFC 9493, section 3)
 abbrev pub of_format : List ℕ → List (List ℕ × Data) → Data

@@ -53,12 +53,8 @@ fn same_simple(a: &Simple, b: &Simple) -> bool
 fn part_named<'a>(name: &str, members: &'a [Member]) -> Option<&'a Simple>
     ensures { option_map (λ s. s.now) result ≡ part_named name.now members.now }
 {
-    for member in members {
-        if name == member.name.as_str() {
-            return Some(&member.simple);
-        }
-    }
-    None
+    let member = members.iter().find(|member| name == member.name.as_str())?;
+    Some(&member.simple)
 }
 
 // Whether the part of the same name is identical; `missing` where there is none.
@@ -75,22 +71,14 @@ fn agrees(member: &Member, others: &[Member], missing: bool) -> bool
 fn all_agree(members: &[Member], others: &[Member], missing: bool) -> bool
     ensures { result ≡ all_agree missing members.now others.now }
 {
-    for member in members {
-        if !agrees(member, others, missing) {
-            return false;
-        }
-    }
-    true
+    members.iter().all(|member| agrees(member, others, missing))
 }
 
 // Whether one of the members is this identifier.
 fn is_part_of(simple: &Simple, members: &[Member]) -> bool
     ensures { result ≡ list_any (λ m. same_simple simple.now m.simple) members.now }
 {
-    for member in members {
-        if same_simple(simple, &member.simple) {
-            return true;
-        }
-    }
-    false
+    members
+        .iter()
+        .any(|member| same_simple(simple, &member.simple))
 }
