@@ -1,8 +1,15 @@
 pub mod Told
+pub mod Found
+pub mod Equality
 pub mod Creating
-pub mod Polling
-pub mod Publishing
+pub mod Configuring
+pub mod Statuses
+pub mod Subjects
+pub mod Verifying
 pub mod Settling
+pub mod Polling
+pub mod Handing
+pub mod Publishing
 pub mod Table
 pub mod Proper
 pub mod Regular

@@ -1,5 +1,5 @@
 -- How a poll is answered, and what it settles (RFC 8936, section 2.4).
-use Rattle.std.specs.Prelude.{ℕ, List, [], ◌∷◌, ◌&&◌, Bool, false, Option, Some, None, bytes_eq, length, map, min, take, nat_lt, unwrap_or, if◌then◌else◌}
+use Rattle.std.specs.Prelude.{ℕ, List, [], ◌∷◌, Option, Some, None, bytes_eq, length, map, min, take, nat_lt, unwrap_or, if◌then◌else◌}
 use Rattle.std.specs.List.{list_any, filter_map}
 use Rattle.std.specs.Option.{option_to_list}
 use Rattle.sig_json.specs.declared.limits.TheConstants.{TOKENS_PER_PAGE}
@@ -9,14 +9,13 @@ use Rattle.sig_terms.specs.declared.answer.Answer.{Answer}
 use Rattle.sig_terms.specs.declared.answer.Answer.TheVariants as answer
 use Rattle.sig_terms.specs.declared.fact.Fact.{Fact}
 use Rattle.sig_terms.specs.declared.fact.SettledItem.{SettledItem}
-use Rattle.sig_history.specs.Streams.{Stream, Made, is_named, token_of}
+use Rattle.sig_terms.specs.declared.want.Delivery.{Delivery}
+use Rattle.sig_terms.specs.Deliveries.{is_push}
+use Rattle.sig_history.specs.Streams.{Stream, Made, token_of}
 use Rattle.sig_history.specs.Owed.{Sum, owed_by, offered_by, sum_of}
-use Rattle.sig_calls.specs.Told.{Told, only}
+use Rattle.sig_calls.specs.Found.{client_stream, told_by}
+use Rattle.sig_calls.specs.Told.{Told, only, with_change}
 use Rattle.sig_calls.specs.Settling.{keeps, settled_fact}
-
--- whether a client has a stream of this name
-abbrev pub has_stream : List ℕ → List ℕ → List Stream → Bool
-has_stream client name streams = list_any (λ (s : Stream). bytes_eq s.client client && is_named name s) streams
 
 -- the code of the first refusal of a token
 abbrev pub refused_as : List ℕ → List Reported → Option (List ℕ)
@@ -47,20 +46,24 @@ abbrev pub page_size : PollAsk → ℕ
 page_size ask = min (unwrap_or ask.max TOKENS_PER_PAGE) TOKENS_PER_PAGE
 
 -- the first tokens that are offered, and whether there are further ones
-abbrev pub page_of : ℕ → List Made → Answer
-page_of size offered = answer.Sets (map token_of (take size offered)) (nat_lt size (length offered))
+abbrev pub page_of : Delivery → ℕ → List Made → Answer
+page_of delivery size offered = answer.Sets (map (token_of delivery) (take size offered)) (nat_lt size (length offered))
 
 -- the fact of a poll of a stream
 abbrev pub polled_change : Sum → List ℕ → PollAsk → Option Fact
 polled_change sum stream ask = settled_fact stream (settled_items ask (owed_by sum stream))
 
 -- what a poll of a stream is answered: what the stream offers once it has settled
-abbrev pub polled_answer : Sum → List ℕ → PollAsk → Answer
-polled_answer sum stream ask = page_of (page_size ask) (offered_by (sum_of sum (option_to_list (polled_change sum stream ask))) stream)
+abbrev pub polled_answer : Sum → List ℕ → PollAsk → Stream → Answer
+polled_answer sum stream ask s =
+    page_of s.conf.delivery (page_size ask) (offered_by (sum_of sum (option_to_list (polled_change sum stream ask))) stream)
+
+-- tokens of a push stream aren't polled
+abbrev pub polled : Sum → List ℕ → PollAsk → Stream → Told
+polled sum stream ask s =
+    if is_push s.conf.delivery then only answer.NotFound
+    else with_change (polled_answer sum stream ask s) (polled_change sum stream ask)
 
 -- what a client that polls is told
 abbrev pub polling : Sum → List ℕ → List ℕ → PollAsk → Told
-polling sum client stream ask =
-    if has_stream client stream sum.parts.streams
-    then record { answer = polled_answer sum stream ask; change = polled_change sum stream ask; over = false }
-    else only answer.NotFound
+polling sum client stream ask = told_by (polled sum stream ask) (client_stream client stream sum.parts.streams)

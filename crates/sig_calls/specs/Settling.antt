@@ -9,7 +9,7 @@ use Rattle.sig_terms.specs.declared.fact.Fact.TheVariants as fact
 use Rattle.sig_terms.specs.declared.fact.SettledItem.{SettledItem}
 use Rattle.sig_history.specs.Owed.{Sum, owed_by}
 use Rattle.sig_history.specs.Sound.{has_number}
-use Rattle.sig_calls.specs.Told.{Told}
+use Rattle.sig_calls.specs.Told.{Told, with_change}
 
 -- the codes that settle nothing, since they are about the bearer and not about the token (own)
 abbrev pub keeps : List ℕ → Bool
@@ -33,8 +33,5 @@ settled_one sum stream number outcome =
 
 -- what the answer to a token is told
 abbrev pub settling : Sum → List ℕ → ℕ → Outcome → Told
-settling sum stream number outcome = record {
-  answer = answer.Settled (length (settled_one sum stream number outcome));
-  change = settled_fact stream (settled_one sum stream number outcome);
-  over = false;
-}
+settling sum stream number outcome =
+    with_change (answer.Settled (length (settled_one sum stream number outcome))) (settled_fact stream (settled_one sum stream number outcome))

@@ -1,11 +1,11 @@
 -- What holds of a history under proper rules: its facts, streams and tokens are as those rules have them.
-use Rattle.std.specs.Prelude.{◌≡◌, ◌≤◌, ℕ, List, true, All, Contains, IsUtf8}
+use Rattle.std.specs.Prelude.{◌≡◌, ◌≤◌, ℕ, List, true, All, Contains, IfSome, IsUtf8}
 use Rattle.sig_json.specs.declared.limits.TheConstants.{LAST_NUMBER}
 use Rattle.sig_event.specs.News.{IsProperNews}
 use Rattle.sig_event.specs.declared.claims.Claims.{Claims}
 use Rattle.sig_set.specs.Written.{IsProperClaims}
 use Rattle.sig_terms.specs.declared.fact.Fact.{Fact}
-use Rattle.sig_terms.specs.declared.fact.Fact.TheVariants.{Created, Published, Settled}
+use Rattle.sig_terms.specs.declared.fact.Fact.TheVariants.{Created, Configured, StatusSet, Listed, Unlisted, Deleted, Published, Settled, Asked}
 use Rattle.sig_history.specs.Streams.{Stream, Made, jti_of}
 use Rattle.sig_history.specs.Owed.{Sum, owed_by}
 use Rattle.sig_history.specs.Sound.{is_client_name}
@@ -14,8 +14,14 @@ use Rattle.sig_history.specs.Whole.{IsWhole}
 -- a fact that these rules make
 abbrev pub IsOurFact : List ℕ → Fact → Type 0
 IsOurFact issuer (Created conf time) = (conf.iss ≡ issuer) × All IsUtf8 conf.aud
+IsOurFact issuer (Configured stream requested delivery description) = Unit {0}
+IsOurFact issuer (StatusSet stream status reason operator time) = IfSome reason IsUtf8 × (time ≤ LAST_NUMBER)
+IsOurFact issuer (Listed stream subject) = Unit {0}
+IsOurFact issuer (Unlisted stream subject) = Unit {0}
+IsOurFact issuer (Deleted stream) = Unit {0}
 IsOurFact issuer (Published id news time) = IsProperNews news × (time ≤ LAST_NUMBER)
 IsOurFact issuer (Settled stream items) = Unit {0}
+IsOurFact issuer (Asked stream state time) = IfSome state IsUtf8 × (time ≤ LAST_NUMBER)
 
 -- a stream of a client, with the rules' issuer and an audience of texts
 pub record IsOurStream (issuer : List ℕ) (s : Stream) : Type 0 where

@@ -1,10 +1,12 @@
 -- What streams owe: of all the tokens made, those that no later fact takes off.
-use Rattle.std.specs.Prelude.{ℕ, List, [], ◌∷◌, ◌++◌, ◌==◌, Bool, false, not, ◌&&◌, bytes_eq, map, filter, length, Option, None, Some, if◌then◌else◌}
+use Rattle.std.specs.Prelude.{ℕ, List, [], ◌∷◌, ◌++◌, ◌==◌, Bool, false, not, ◌&&◌, ◌||◌, bytes_eq, map, filter, length, Option, None, Some, if◌then◌else◌}
 use Rattle.std.specs.List.{list_any}
+use Rattle.std.specs.Option.{option_map_or}
+use Rattle.sig_event.specs.declared.status.Status.{Status}
 use Rattle.sig_terms.specs.declared.fact.Fact.{Fact}
-use Rattle.sig_terms.specs.declared.fact.Fact.TheVariants.{Created, Published, Settled}
+use Rattle.sig_terms.specs.declared.fact.Fact.TheVariants.{Created, Configured, StatusSet, Listed, Unlisted, Deleted, Published, Settled, Asked}
 use Rattle.sig_terms.specs.declared.fact.SettledItem.{SettledItem}
-use Rattle.sig_history.specs.Streams.{Stream, Parts, Made, stands, is_named}
+use Rattle.sig_history.specs.Streams.{Stream, Parts, Made, is_disabled, is_enabled, is_named, is_notice, stands}
 use Rattle.sig_history.specs.Facts.{made_by, parts_after, parts_of}
 
 -- what a history comes to: its parts, and beside each stream the tokens that it owes, in order of number
@@ -20,11 +22,17 @@ is_of name t = bytes_eq t.stream name
 abbrev pub names_number : ℕ → List SettledItem → Bool
 names_number number items = list_any (λ (i : SettledItem). i.number == number) items
 
--- whether a later fact takes a stream's token off: it was settled
+-- whether a later fact takes a stream's token off: it was settled, or the stream was disabled or deleted
 abbrev pub takes_off : List ℕ → Fact → Made → Bool
 takes_off name (Created conf time) t = false
+takes_off name (Configured stream requested delivery description) t = false
+takes_off name (StatusSet stream status reason operator time) t = bytes_eq stream name && is_disabled status
+takes_off name (Listed stream subject) t = false
+takes_off name (Unlisted stream subject) t = false
+takes_off name (Deleted stream) t = bytes_eq stream name
 takes_off name (Published id news time) t = false
 takes_off name (Settled stream items) t = bytes_eq stream name && names_number t.number items
+takes_off name (Asked stream state time) t = false
 
 -- the stream stands throughout, and no later fact takes the token off
 abbrev pub survives : List ℕ → Parts → List Fact → Made → Bool
@@ -68,9 +76,19 @@ empty_sum store_id = record {
 abbrev pub owed_by : Sum → List ℕ → List Made
 owed_by sum name = owed_in name sum.parts.streams sum.owed
 
--- what it offers: all that it owes, since every stream is enabled so far
+-- the stream of a name, where it stands
+abbrev pub stream_named : List ℕ → List Stream → Option Stream
+stream_named name [] = None
+stream_named name (s ∷ ss) = if is_named name s then Some s else stream_named name ss
+
+-- whether a stream of this status offers a token that it owes: one that isn't enabled offers what tells of its status alone
+abbrev pub offers : Status → Made → Bool
+offers status t = is_enabled status || is_notice t
+
+-- what the stream of a name offers
 abbrev pub offered_by : Sum → List ℕ → List Made
-offered_by sum name = owed_by sum name
+offered_by sum name =
+    option_map_or (λ (s : Stream). filter (offers s.status) (owed_by sum name)) (stream_named name sum.parts.streams) []
 
 -- how many tokens the stream of a name owes, where it stands
 abbrev pub owed_count : Sum → List ℕ → Option ℕ

@@ -4,7 +4,7 @@ use Rattle.std.specs.List.{list_any, list_all}
 use Rattle.sig_json.specs.declared.limits.TheConstants.{LAST_NUMBER, PAYLOAD_BYTES, STREAMS_PER_CLIENT, CLIENT_NAME_BYTES}
 use Rattle.sig_set.specs.Written.{payload_text_of}
 use Rattle.sig_terms.specs.declared.fact.Fact.{Fact}
-use Rattle.sig_terms.specs.declared.fact.Fact.TheVariants.{Created, Published, Settled}
+use Rattle.sig_terms.specs.declared.fact.Fact.TheVariants.{Created, Configured, StatusSet, Listed, Unlisted, Deleted, Published, Settled, Asked}
 use Rattle.sig_terms.specs.declared.fact.SettledItem.{SettledItem}
 use Rattle.sig_history.specs.Streams.{Parts, Made, client_in, stream_name, created_by, stands, streams_of}
 use Rattle.sig_history.specs.Facts.{made_by}
@@ -60,9 +60,15 @@ are_owed items owed = list_all (λ (i : SettledItem). has_number i.number owed) 
 -- whether the streams and tokens that a fact names are there, and what it brings may be brought
 abbrev pub is_apt : Sum → Fact → Bool
 is_apt sum (Created conf time) = is_next sum.parts (client_in conf.stream) conf.stream
+is_apt sum (Configured stream requested delivery description) = stands stream sum.parts.streams
+is_apt sum (StatusSet stream status reason operator time) = stands stream sum.parts.streams
+is_apt sum (Listed stream subject) = stands stream sum.parts.streams
+is_apt sum (Unlisted stream subject) = stands stream sum.parts.streams
+is_apt sum (Deleted stream) = stands stream sum.parts.streams
 is_apt sum (Published id news time) = true
 is_apt sum (Settled stream items) =
     stands stream sum.parts.streams && are_owed items (owed_by sum stream) && each_once items
+is_apt sum (Asked stream state time) = stands stream sum.parts.streams
 
 -- a fact may follow what a history came to: it is apt, and the tokens that it makes may be made
 abbrev pub is_fitting : Sum → Fact → Bool

@@ -1,7 +1,7 @@
 -- Streams beside what each owes, and what one more fact makes of each.
 use Rattle.std.specs.Prelude.{ℕ, List, [], ◌∷◌, ◌++◌, Option, None, Some, not, map, filter, if◌then◌else◌}
 use Rattle.sig_terms.specs.declared.fact.Fact.{Fact}
-use Rattle.sig_history.specs.Streams.{Stream, Count, Publication, Made, is_before}
+use Rattle.sig_history.specs.Streams.{Stream, Count, Publication, Made, is_before, is_named}
 use Rattle.sig_history.specs.Facts.{stream_after, token_for}
 use Rattle.sig_history.specs.Owed.{Sum, takes_off}
 
@@ -38,3 +38,8 @@ put_standing s (t ∷ ts) = if is_before t.stream s.stream then t ∷ put_standi
 abbrev pub placed_standing : Option Stream → List Standing → List Standing
 placed_standing None standings = standings
 placed_standing (Some s) standings = put_standing (record { stream = s; owed = [] }) standings
+
+-- one that is taken away is gone with all that it owes
+abbrev pub without_standing : Option (List ℕ) → List Standing → List Standing
+without_standing None standings = standings
+without_standing (Some name) standings = filter (λ (s : Standing). not (is_named name s.stream)) standings

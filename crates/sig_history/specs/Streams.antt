@@ -1,22 +1,36 @@
 -- Streams, how many each client made, what was published, and tokens.
-use Rattle.std.specs.Prelude.{ℕ, List, [], ◌∷◌, ◌++◌, ◌+◌, ◌==◌, Bool, ◌&&◌, ◌||◌, Option, None, Some, codes, decimal, bytes_eq, length, filter, nat_lt, if◌then◌else◌}
+use Rattle.std.specs.Prelude.{ℕ, List, [], ◌∷◌, ◌++◌, ◌+◌, ◌==◌, Bool, true, false, not, ◌&&◌, ◌||◌, Option, None, Some, codes, decimal, bytes_eq, length, filter, nat_lt, if◌then◌else◌}
 use Rattle.std.specs.List.{list_any}
 use Rattle.std.specs.Cmp.Lexicographic.{slice_cmp}
 use Rattle.std.specs.Ordering.{is_lt, nat_cmp}
 use Rattle.uuid.specs.Text.{hyphenated_text, lower}
 use Rattle.sig_event.specs.Events.{uri_of}
+use Rattle.sig_subject.specs.Matching.{is_identical}
+use Rattle.sig_subject.specs.declared.subject.Subject.{Subject}
 use Rattle.sig_event.specs.declared.claims.Claims.{Claims}
+use Rattle.sig_event.specs.declared.event.Event.{Event}
+use Rattle.sig_event.specs.declared.event.Event.TheVariants as event
 use Rattle.sig_event.specs.declared.news.News.{News}
+use Rattle.sig_event.specs.declared.status.Status.{Status}
+use Rattle.sig_event.specs.declared.status.Status.TheVariants as status
 use Rattle.sig_terms.specs.Fitting.{delivers, fits}
 use Rattle.sig_terms.specs.declared.configuration.StreamConf.{StreamConf}
+use Rattle.sig_terms.specs.declared.endpoint.Endpoint.{Endpoint}
+use Rattle.sig_terms.specs.declared.want.Delivery.{Delivery}
+use Rattle.sig_terms.specs.declared.want.Delivery.TheVariants as delivery
 use Rattle.sig_terms.specs.declared.token.Issued.{Issued}
 use Rattle.sig_terms.specs.declared.token.Token.{Token}
 
--- a stream: whose it is, its number among that client's, its configuration, and how many tokens were made for it
+-- a stream: whose it is, its number among that client's, its configuration, its status and why it was set, the subjects on
+-- its list, when a verification was last asked for, and how many tokens were made for it
 pub record Stream : Type 0 where
   pub client : List ℕ
   pub number : ℕ
   pub conf : StreamConf
+  pub status : Status
+  pub reason : Option (List ℕ)
+  pub listed : List Subject
+  pub asked : Option ℕ
   pub made : ℕ
 
 -- how many streams a client ever made
@@ -94,10 +108,58 @@ stands name streams = list_any (is_named name) streams
 abbrev pub streams_of : List ℕ → List Stream → ℕ
 streams_of client streams = length (filter (λ (s : Stream). bytes_eq s.client client) streams)
 
--- whether news are due on a stream: it delivers the event, and the subject is one of its subjects; no stream has added or
--- removed a subject so far (Shared Signals Framework 1.0, sections 7 and 8.1.1)
+-- a stream with another part
+abbrev pub with_conf : StreamConf → Stream → Stream
+with_conf conf s = record {
+  client = s.client; number = s.number; conf = conf; status = s.status; reason = s.reason;
+  listed = s.listed; asked = s.asked; made = s.made;
+}
+
+abbrev pub with_status : Status → Option (List ℕ) → Stream → Stream
+with_status status reason s = record {
+  client = s.client; number = s.number; conf = s.conf; status = status; reason = reason;
+  listed = s.listed; asked = s.asked; made = s.made;
+}
+
+abbrev pub with_listed : List Subject → Stream → Stream
+with_listed listed s = record {
+  client = s.client; number = s.number; conf = s.conf; status = s.status; reason = s.reason;
+  listed = listed; asked = s.asked; made = s.made;
+}
+
+abbrev pub with_asked : ℕ → Stream → Stream
+with_asked time s = record {
+  client = s.client; number = s.number; conf = s.conf; status = s.status; reason = s.reason;
+  listed = s.listed; asked = Some time; made = s.made;
+}
+
+abbrev pub with_made : ℕ → Stream → Stream
+with_made made s = record {
+  client = s.client; number = s.number; conf = s.conf; status = s.status; reason = s.reason;
+  listed = s.listed; asked = s.asked; made = made;
+}
+
+-- a list of subjects with one more at its end, unless an identical one is there, and without the identical one
+abbrev pub list_added : Subject → List Subject → List Subject
+list_added subject listed = if list_any (is_identical subject) listed then listed else listed ++ subject ∷ []
+
+abbrev pub list_removed : Subject → List Subject → List Subject
+list_removed subject listed = filter (λ l. not (is_identical subject l)) listed
+
+abbrev pub is_enabled : Status → Bool
+is_enabled status.Enabled = true
+is_enabled status.Paused = false
+is_enabled status.Disabled = false
+
+abbrev pub is_disabled : Status → Bool
+is_disabled status.Enabled = false
+is_disabled status.Paused = false
+is_disabled status.Disabled = true
+
+-- whether news are due on a stream: it isn't disabled, it delivers the event, and the subject is one of its subjects (Shared
+-- Signals Framework 1.0, sections 7, 8.1.1 and 8.1.2)
 abbrev pub is_due : News → Stream → Bool
-is_due n s = delivers s.conf (uri_of n.event) && fits s.conf.defaults [] n.subject
+is_due n s = not (is_disabled s.status) && delivers s.conf (uri_of n.event) && fits s.conf.defaults s.listed n.subject
 
 -- the streams on which they are due, in order of client name and number
 abbrev pub due : Parts → News → List Stream
@@ -130,9 +192,39 @@ next_token store_id n time s = record {
 abbrev pub issued_of : Made → Issued
 issued_of t = record { stream = t.stream; number = t.number }
 
+-- where a stream's tokens are sent, and with which `authorization` field; nowhere where the receiver asks for them
+abbrev pub endpoint_in : Delivery → Option Endpoint
+endpoint_in delivery.Poll = None
+endpoint_in (delivery.Push endpoint url authorization) = Some endpoint
+
+abbrev pub authorization_in : Delivery → Option (List ℕ)
+authorization_in delivery.Poll = None
+authorization_in (delivery.Push endpoint url authorization) = authorization
+
 -- a token as it is handed out
-abbrev pub token_of : Made → Token
-token_of t = record { stream = t.stream; number = t.number; claims = t.claims }
+abbrev pub token_of : Delivery → Made → Token
+token_of d t = record {
+  stream = t.stream;
+  number = t.number;
+  claims = t.claims;
+  endpoint = endpoint_in d;
+  authorization = authorization_in d;
+}
+
+-- the token that is handed out
+abbrev pub made_in : Token → Made
+made_in m = record { stream = m.stream; number = m.number; claims = m.claims }
+
+-- whether a token tells that its stream's status changed (Shared Signals Framework 1.0, section 8.1.5)
+abbrev pub is_update : Event → Bool
+is_update (event.Caep e) = false
+is_update (event.Risc e) = false
+is_update (event.Verification state) = false
+is_update (event.StreamUpdated status reason) = true
+is_update (event.Other uri) = false
+
+abbrev pub is_notice : Made → Bool
+is_notice t = list_any is_update t.claims.events
 
 -- the first publication of an id
 abbrev pub publication_of : List ℕ → List Publication → Option Publication

@@ -1,9 +1,9 @@
 -- What other clients do changes nothing: in a client's part of a history, and in what the client is told.
 use Rattle.std.specs.Prelude.{◌≡◌, ℕ, List, Bool, true, false, bytes_eq, map, filter}
 use Rattle.sig_terms.specs.declared.call.Call.{Call}
-use Rattle.sig_terms.specs.declared.call.Call.TheVariants.{Create, Poll, Publish, Settle}
+use Rattle.sig_terms.specs.declared.call.Call.TheVariants.{Metadata, Create, ReadAll, Read, Patch, Put, Delete, GetStatus, SetStatus, Add, Remove, Verify, Poll, Publish, OperatorStatus, Deliver, Hand, Settle}
 use Rattle.sig_terms.specs.declared.fact.Fact.{Fact}
-use Rattle.sig_terms.specs.declared.fact.Fact.TheVariants.{Created, Published, Settled}
+use Rattle.sig_terms.specs.declared.fact.Fact.TheVariants.{Created, Configured, StatusSet, Listed, Unlisted, Deleted, Published, Settled, Asked}
 use Rattle.sig_terms.specs.declared.rules.Rules.{Rules}
 use Rattle.sig_history.specs.Streams.{Stream, Made, client_in, created_by}
 use Rattle.sig_history.specs.Owed.{Sum, empty_sum, owed_by, sum_of}
@@ -12,8 +12,14 @@ use Rattle.sig_calls.specs.Table.{told_of}
 -- a fact that a client's part of a history may rest on: it is of one of its streams, or is a publication
 abbrev pub concerns : List ℕ → Fact → Bool
 concerns client (Created conf time) = bytes_eq (client_in conf.stream) client
+concerns client (Configured stream requested delivery description) = bytes_eq (client_in stream) client
+concerns client (StatusSet stream status reason operator time) = bytes_eq (client_in stream) client
+concerns client (Listed stream subject) = bytes_eq (client_in stream) client
+concerns client (Unlisted stream subject) = bytes_eq (client_in stream) client
+concerns client (Deleted stream) = bytes_eq (client_in stream) client
 concerns client (Published id news time) = true
 concerns client (Settled stream items) = bytes_eq (client_in stream) client
+concerns client (Asked stream state time) = bytes_eq (client_in stream) client
 
 -- a client's part of what a history comes to: its streams, what each owes, and how many it ever made
 pub record Part : Type 0 where
@@ -43,9 +49,23 @@ PartsAreIsolated = (store_id client : List ℕ) (facts : List Fact)
 
 -- a call that a client makes for itself
 abbrev pub is_call_of : List ℕ → Call → Bool
+is_call_of client Metadata = false
 is_call_of client (Create c want) = bytes_eq c client
+is_call_of client (ReadAll c) = bytes_eq c client
+is_call_of client (Read c stream) = bytes_eq c client
+is_call_of client (Patch c stream want) = bytes_eq c client
+is_call_of client (Put c stream want) = bytes_eq c client
+is_call_of client (Delete c stream) = bytes_eq c client
+is_call_of client (GetStatus c stream) = bytes_eq c client
+is_call_of client (SetStatus c stream status reason) = bytes_eq c client
+is_call_of client (Add c stream subject) = bytes_eq c client
+is_call_of client (Remove c stream subject) = bytes_eq c client
+is_call_of client (Verify c stream state) = bytes_eq c client
 is_call_of client (Poll c stream ask) = bytes_eq c client
 is_call_of client (Publish id news) = false
+is_call_of client (OperatorStatus stream status reason) = false
+is_call_of client (Deliver stream) = false
+is_call_of client (Hand streams) = false
 is_call_of client (Settle stream number outcome) = false
 
 -- nothing that other clients did changes what a client is told, or the fact that its call makes

@@ -6,7 +6,7 @@ use Rattle.sig_receiver.specs.Journal.{pair_of, pairs_of, distinct}
 use Rattle.sig_inbox.specs.Pairs.{has_pair}
 use Rattle.sig_set.specs.Judgement.{claims_of}
 use Rattle.sig_terms.specs.declared.fact.Fact.{Fact}
-use Rattle.sig_history.specs.Streams.{Made, token_of}
+use Rattle.sig_history.specs.Streams.{Made, made_in}
 use Rattle.sig_history.specs.Facts.{tokens_of}
 use Rattle.sig_history.specs.Owed.{empty_sum, is_left, made_along, owed_by, token_in}
 use Rattle.sig_history.specs.Sound.{is_sound}
@@ -33,8 +33,8 @@ pub record AreProper (ends : Ends) : Type 0 where
 
 -- what holds of the world at each moment
 pub record IsLawful (ends : Ends) (world : World) : Type 0 where
-  -- each message is a token that the transmitter made
-  pub messages : All (λ m. Contains (map token_of (tokens_in ends world)) m) world.messages
+  -- each message is a token that the transmitter made, for that stream
+  pub messages : All (λ m. Contains (tokens_in ends world) (made_in m)) world.messages
   -- each token that the receiver has acknowledged stands in its journal
   pub replies : All (λ (r : Reply). is_taken r.heard ≡ true → is_journalled world r.message.claims ≡ true) world.replies
   -- each token that the transmitter counts as acknowledged stands in the receiver's journal

@@ -12,7 +12,7 @@ use Rattle.sig_set.specs.Written.{token_text}
 use Rattle.sig_terms.specs.declared.rules.Rules.{Rules}
 use Rattle.sig_terms.specs.declared.token.Token.{Token}
 use Rattle.sig_terms.specs.declared.call.Call.{Call}
-use Rattle.sig_terms.specs.declared.call.Call.TheVariants.{Create, Poll, Publish, Settle}
+use Rattle.sig_terms.specs.declared.call.Call.TheVariants.{Metadata, Create, ReadAll, Read, Patch, Put, Delete, GetStatus, SetStatus, Add, Remove, Verify, Poll, Publish, OperatorStatus, Deliver, Hand, Settle}
 use Rattle.sig_terms.specs.declared.call.Outcome.{Outcome}
 use Rattle.sig_terms.specs.declared.call.Outcome.TheVariants as outcome
 use Rattle.sig_terms.specs.declared.call.PollAsk.{PollAsk}
@@ -82,9 +82,23 @@ tells_answers replies ask =
 
 -- a call that may come: no answer but by a poll that tells only what the receiver answered
 abbrev pub may_come : List Reply → Call → Bool
+may_come replies Metadata = true
 may_come replies (Create client want) = true
+may_come replies (ReadAll client) = true
+may_come replies (Read client stream) = true
+may_come replies (Patch client stream want) = true
+may_come replies (Put client stream want) = true
+may_come replies (Delete client stream) = true
+may_come replies (GetStatus client stream) = true
+may_come replies (SetStatus client stream status reason) = true
+may_come replies (Add client stream subject) = true
+may_come replies (Remove client stream subject) = true
+may_come replies (Verify client stream state) = true
 may_come replies (Poll client stream ask) = tells_answers replies ask
 may_come replies (Publish id news) = true
+may_come replies (OperatorStatus stream status reason) = true
+may_come replies (Deliver stream) = true
+may_come replies (Hand streams) = true
 may_come replies (Settle stream number outcome) = false
 
 -- what the facts come to over the transmitter's new store

@@ -1,16 +1,20 @@
 -- The books of a ledger: streams with what they owe in small, and what they come to.
-use Rattle.std.specs.Prelude.{ℕ, List, [], ◌∷◌, ◌++◌, ◌+◌, ◌<◌, ◌==◌, Bool, not, Option, None, Some, map, filter, length, slice_index_or, if◌then◌else◌, All}
+use Rattle.std.specs.Prelude.{ℕ, List, [], ◌∷◌, ◌++◌, ◌+◌, ◌<◌, ◌==◌, ◌&&◌, Bool, not, Option, None, Some, bytes_eq, map, filter, length, slice_index_or, if◌then◌else◌, All, ⊤}
 use Rattle.sig_subject.specs.declared.plain.Plain.TheVariants as plain
 use Rattle.sig_subject.specs.declared.simple.Simple.TheVariants as simple
 use Rattle.sig_subject.specs.declared.subject.Subject.TheVariants as subject
 use Rattle.sig_event.specs.declared.event.Event.TheVariants as event
+use Rattle.sig_event.specs.declared.claims.Claims.{Claims}
 use Rattle.sig_event.specs.declared.news.News.{News}
-use Rattle.sig_terms.specs.declared.fact.SettledItem.{SettledItem}
-use Rattle.sig_history.specs.Streams.{Stream, Count, Publication, Made, claims_for, hyphen, is_due, is_before, is_named}
-use Rattle.sig_history.specs.Owed.{Sum, names_number}
+use Rattle.sig_terms.specs.declared.fact.Fact.{Fact}
+use Rattle.sig_history.specs.Streams.{Stream, Count, Publication, Made, claims_for, hyphen, is_before, is_named}
+use Rattle.sig_history.specs.Facts.{is_told, stream_after, time_of, updated_news, verified_news}
+use Rattle.sig_history.specs.Owed.{Sum, takes_off}
 use Rattle.sig_history.specs.Standings.{Standing, sum_with}
 use Rattle.sig_history.specs.Whole.{IsWhole}
 use Rattle.sig_ledger.specs.declared.debt.Debt.{Debt}
+use Rattle.sig_ledger.specs.declared.debt.Said.{Said}
+use Rattle.sig_ledger.specs.declared.debt.Said.TheVariants as said
 
 -- the byte of `-`, after which a stream's name has its number
 abbrev pub is_hyphen : ℕ → Bool
@@ -21,16 +25,20 @@ pub record Owing : Type 0 where
   pub stream : Stream
   pub owed : List Debt
 
--- with the number of further tokens for which there is room
+-- with the numbers of further tokens and of further subjects for which there is room
 pub record Balance : Type 0 where
   pub owing : Owing
   pub room : ℕ
+  pub subjects : ℕ
 
 abbrev pub owing_in : Balance → Owing
 owing_in b = b.owing
 
 abbrev pub room_in : Balance → ℕ
 room_in b = b.room
+
+abbrev pub subjects_in : Balance → ℕ
+subjects_in b = b.subjects
 
 abbrev pub stream_in : Owing → Stream
 stream_in o = o.stream
@@ -47,16 +55,26 @@ pub record Books : Type 0 where
 abbrev pub no_news : News
 no_news = record { subject = subject.Simple (simple.Plain (plain.Opaque [])); event = event.Other [] }
 
+-- what a token says of which only the number counts
+abbrev pub no_claims : Claims
+no_claims = record { iss = []; jti = []; iat = 0; aud = []; subject = no_news.subject; events = [] }
+
 -- the news of the publication at a place
 abbrev pub news_at : List Publication → ℕ → News
 news_at published place = slice_index_or (map (λ (p : Publication). p.news) published) place no_news
+
+-- the news of a debt of a stream
+abbrev pub news_of : List Publication → List ℕ → Said → News
+news_of published stream (said.Published place) = news_at published place
+news_of published stream (said.Verified state) = verified_news stream state
+news_of published stream (said.Updated status reason) = updated_news stream status reason
 
 -- the token that is owed
 abbrev pub made_of : List ℕ → List Publication → Stream → Debt → Made
 made_of store_id published s d = record {
   stream = s.conf.stream;
   number = d.number;
-  claims = claims_for store_id s.conf d.number d.time (news_at published d.place);
+  claims = claims_for store_id s.conf d.number d.time (news_of published s.conf.stream d.said);
 }
 
 -- a stream beside the tokens that it owes
@@ -67,14 +85,23 @@ standing_of store_id published o = record { stream = o.stream; owed = map (made_
 abbrev pub sum_in : Books → Sum
 sum_in b = sum_with b.store_id (map (standing_of b.store_id b.published) b.owings) b.created b.published
 
--- each is about a publication that there is
+-- what it says is about a publication that there is, or about its stream
+abbrev pub IsPlaced : ℕ → Said → Type 0
+IsPlaced places (said.Published place) = place < places
+IsPlaced places (said.Verified state) = ⊤
+IsPlaced places (said.Updated status reason) = ⊤
+
 abbrev pub ArePlaced : ℕ → Owing → Type 0
-ArePlaced places o = All (λ (d : Debt). d.place < places) o.owed
+ArePlaced places o = All (λ (d : Debt). IsPlaced places d.said) o.owed
 
 -- what holds of a ledger's books at each moment: what they come to is whole, and each debt is about a publication that there is
 pub record AreKept (b : Books) : Type 0 where
   pub whole : IsWhole (sum_in b)
   pub placed : All (ArePlaced (length b.published)) b.owings
+
+-- whether a fact takes a debt of a stream off: by its number, or by the stream's name
+abbrev pub debt_off : Fact → List ℕ → Debt → Bool
+debt_off f name d = takes_off name f (record { stream = name; number = d.number; claims = no_claims })
 
 -- the first of a name
 abbrev pub owing_named : List ℕ → List Owing → Option Owing
@@ -86,7 +113,7 @@ abbrev pub opened : Stream → Owing
 opened s = record { stream = s; owed = [] }
 
 abbrev pub opened_balance : Stream → Balance
-opened_balance s = record { owing = opened s; room = 0 }
+opened_balance s = record { owing = opened s; room = 0; subjects = 0 }
 
 -- the streams with this one in its place
 abbrev pub put_owing : Owing → List Owing → List Owing
@@ -97,21 +124,23 @@ abbrev pub put_balance : Balance → List Balance → List Balance
 put_balance b [] = b ∷ []
 put_balance b (c ∷ cs) = if is_before c.owing.stream b.owing.stream then c ∷ put_balance b cs else b ∷ c ∷ cs
 
--- a stream with one more token, where the news of the publication at a place are due on it
-abbrev pub charged : News → ℕ → ℕ → Owing → Owing
-charged n time place o =
-    if is_due n o.stream
-    then record {
-      stream = record { client = o.stream.client; number = o.stream.number; conf = o.stream.conf; made = o.stream.made + 1 };
-      owed = o.owed ++ record { number = o.stream.made + 1; time = time; place = place } ∷ [];
-    }
-    else o
+-- the client's stream of a name
+abbrev pub client_owing : List ℕ → List ℕ → List Owing → Option Owing
+client_owing client name [] = None
+client_owing client name (o ∷ os) =
+    if bytes_eq o.stream.client client && is_named name o.stream then Some o else client_owing client name os
 
--- what is left where items are settled
-abbrev pub left_of : List SettledItem → List Debt → List Debt
-left_of items owed = filter (λ (d : Debt). not (names_number d.number items)) owed
+-- a debt that is made of a stream, with what it says
+abbrev pub next_debt : ℕ → Said → Stream → Debt
+next_debt time said s = record { number = s.made + 1; time = time; said = said }
 
--- the stream of a name without the tokens that were settled
-abbrev pub paid : List ℕ → List SettledItem → Owing → Owing
-paid stream items o =
-    if is_named stream o.stream then record { stream = o.stream; owed = left_of items o.owed } else o
+-- what is left of what a stream owes after a fact, before what the fact makes
+abbrev pub left_by : Fact → Stream → List Debt → List Debt
+left_by f s owed = filter (λ (d : Debt). not (debt_off f s.conf.stream d)) owed
+
+-- a stream after a fact that says so, where it tells the stream
+abbrev pub owing_after : Fact → Said → Owing → Owing
+owing_after f said o = record {
+  stream = stream_after f o.stream;
+  owed = left_by f o.stream o.owed ++ (if is_told f o.stream then next_debt (time_of f) said o.stream ∷ [] else []);
+}

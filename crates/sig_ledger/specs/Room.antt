@@ -1,21 +1,24 @@
 -- For what a ledger has room, and what a fact needs to be taken in without memory.
-use Rattle.std.specs.Prelude.{◌≡◌, ℕ, ◌+◌, ◌<◌, ◌^◌, List, [], ◌∷◌, true, map}
-use Rattle.sig_event.specs.declared.news.News.{News}
+use Rattle.std.specs.Prelude.{◌≡◌, ℕ, ◌+◌, ◌<◌, ◌==◌, List, [], ◌∷◌, Bool, true, Option, map}
+use Rattle.std.specs.List.{list_any}
 use Rattle.sig_terms.specs.declared.fact.Fact.{Fact}
-use Rattle.sig_terms.specs.declared.fact.Fact.TheVariants.{Created, Published, Settled}
+use Rattle.sig_terms.specs.declared.fact.SettledItem.{SettledItem}
+use Rattle.sig_terms.specs.declared.fact.Fact.TheVariants.{Created, Configured, StatusSet, Listed, Unlisted, Deleted, Published, Settled, Asked}
 use Rattle.sig_terms.specs.declared.token.Issued.{Issued}
-use Rattle.sig_history.specs.Streams.{Stream, Parts, client_in, is_due, issued_of}
-use Rattle.sig_history.specs.Facts.{made_by}
-use Rattle.sig_ledger.specs.Books.{Balance, Books}
+use Rattle.sig_history.specs.Streams.{Stream, Parts, client_in, is_named, issued_of}
+use Rattle.sig_history.specs.Facts.{is_told, made_by}
+use Rattle.sig_history.specs.Owed.{names_number}
+use Rattle.sig_ledger.specs.Books.{Books}
 
--- for how many further items there is room: streams, counts of clients, publications, their ids in the index, and tokens of each
--- stream
+-- for how many further items there is room: streams, counts of clients, publications, their ids in the index, and tokens and
+-- subjects of each stream
 pub record Rooms : Type 0 where
   pub streams : ℕ
   pub created : ℕ
   pub published : ℕ
   pub ids : ℕ
   pub tokens : List ℕ
+  pub subjects : List ℕ
 
 -- a ledger as contracts see it: its books, and its room
 pub record Held : Type 0 where
@@ -23,44 +26,56 @@ pub record Held : Type 0 where
   pub room : Rooms
 
 -- what is kept of a fact beside itself: the client's name for its count; a publication's id for the index, and the tokens that it
--- makes
+-- makes; the numbers that are settled, for look-ups; the reason of a status, for the token that tells it
 pub record Spare : Type 0 where
   pub client : List ℕ
   pub id : List ℕ
   pub issued : List Issued
+  pub numbers : List ℕ
+  pub reason : Option (List ℕ)
 
 -- a fact, with what is kept beside it
 pub record Ready : Type 0 where
   pub fact : Fact
   pub spare : Spare
 
--- a stream on which news are due has room for a token
-abbrev pub HasRoomFor : News → Balance → Type 0
-HasRoomFor n b = is_due n b.owing.stream ≡ true → 0 < b.room
+-- each stream of a kind has room
+abbrev pub HaveRoom : (Stream → Bool) → List Stream → List ℕ → Type 0
+HaveRoom test [] rooms = Unit {0}
+HaveRoom test (s ∷ ss) [] = ⊥
+HaveRoom test (s ∷ ss) (room ∷ rooms) = (test s ≡ true → 0 < room) × HaveRoom test ss rooms
 
--- and its next number is one that is held
-abbrev pub IsBelowTop : News → Balance → Type 0
-IsBelowTop n b = is_due n b.owing.stream ≡ true → b.owing.stream.made + 1 < 2 ^ 64
-
--- each stream on which news are due has room for a token
-abbrev pub HaveRoom : News → List Stream → List ℕ → Type 0
-HaveRoom n [] rooms = Unit {0}
-HaveRoom n (s ∷ ss) [] = ⊥
-HaveRoom n (s ∷ ss) (room ∷ rooms) = (is_due n s ≡ true → 0 < room) × HaveRoom n ss rooms
+-- the numbers are those that are settled
+abbrev pub AreNumbers : List ℕ → List SettledItem → Type 0
+AreNumbers numbers items = (n : ℕ) → list_any (λ m. m == n) numbers ≡ names_number n items
 
 -- what stands beside the fact is what is kept of it
 abbrev pub IsSpare : Parts → Fact → Spare → Type 0
 IsSpare parts (Created conf time) spare = spare.client ≡ client_in conf.stream
+IsSpare parts (Configured stream requested delivery description) spare = Unit {0}
+IsSpare parts (StatusSet stream status reason operator time) spare = spare.reason ≡ reason
+IsSpare parts (Listed stream subject) spare = Unit {0}
+IsSpare parts (Unlisted stream subject) spare = Unit {0}
+IsSpare parts (Deleted stream) spare = Unit {0}
 IsSpare parts (Published id news time) spare = (spare.id ≡ id) × (spare.issued ≡ map issued_of (made_by parts (Published id news time)))
-IsSpare parts (Settled stream items) spare = Unit {0}
+IsSpare parts (Settled stream items) spare = AreNumbers spare.numbers items
+IsSpare parts (Asked stream state time) spare = Unit {0}
 
--- there is room for what the fact makes
-abbrev pub HasSpace : Parts → Rooms → Fact → Type 0
-HasSpace parts room (Created conf time) = (0 < room.streams) × (0 < room.created)
-HasSpace parts room (Published id news time) = (0 < room.published) × (0 < room.ids) × HaveRoom news parts.streams room.tokens
-HasSpace parts room (Settled stream items) = Unit {0}
+-- there is room for what the fact brings beside tokens
+abbrev pub HasOwnSpace : Parts → Rooms → Fact → Type 0
+HasOwnSpace parts room (Created conf time) = (0 < room.streams) × (0 < room.created)
+HasOwnSpace parts room (Configured stream requested delivery description) = Unit {0}
+HasOwnSpace parts room (StatusSet stream status reason operator time) = Unit {0}
+HasOwnSpace parts room (Listed stream subject) = HaveRoom (is_named stream) parts.streams room.subjects
+HasOwnSpace parts room (Unlisted stream subject) = Unit {0}
+HasOwnSpace parts room (Deleted stream) = Unit {0}
+HasOwnSpace parts room (Published id news time) = (0 < room.published) × (0 < room.ids)
+HasOwnSpace parts room (Settled stream items) = Unit {0}
+HasOwnSpace parts room (Asked stream state time) = Unit {0}
 
--- a fact may be taken in without memory
+-- a fact may be taken in without memory: what is kept beside it is there, each stream that it tells has room for a token, and
+-- there is room for the rest
 pub record HasRoom (parts : Parts) (room : Rooms) (r : Ready) : Type 0 where
   pub spare : IsSpare parts r.fact r.spare
-  pub space : HasSpace parts room r.fact
+  pub tokens : HaveRoom (is_told r.fact) parts.streams room.tokens
+  pub space : HasOwnSpace parts room r.fact
