@@ -2,7 +2,8 @@
 //!
 //! This layer stands on `sig_json` for its values and its limits, on `sha2` for the hash and on `base64` for the
 //! alphabet. `hmac` is the MAC of RFC 2104 with SHA-256 (`HS256` of RFC 7518, section 3.2), `sign` and `split` write
-//! and read the three parts of RFC 7515, section 7.1, and `verifies` compares a token's MAC with the right one.
+//! and read the three parts of RFC 7515, section 7.1, and `verifies` compares a token's MAC with the right one. Where many
+//! tokens come under one key, a `PreparedKey` hashes the key's two blocks once for all of them.
 //!
 //! Promised: `hmac` and `sign` give exactly what the formulas say (`specs/Hmac`, `specs/Compact`); `split` refuses
 //! exactly the texts that it names, and gives back what was signed (`laws`); `verifies` says yes exactly where the MAC
@@ -15,6 +16,7 @@ mod compact;
 mod key;
 pub mod laws;
 mod mac;
+mod prepared;
 #[cfg(test)]
 mod tests;
 mod threads;
@@ -22,3 +24,4 @@ mod threads;
 pub use compact::{Compact, SplitFault, sign, split, verifies};
 pub use key::{Key, key_of};
 pub use mac::{MAC_BYTES, hmac};
+pub use prepared::PreparedKey;

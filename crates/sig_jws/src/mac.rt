@@ -6,6 +6,7 @@
 
 ghost use Rattle.std.specs.Prelude.{◌≡◌, ◌≤◌, ◌↔◌, ◌++◌, IsTrue, length, drop};
 ghost use Rattle.sig_jws.specs.Hmac.{block_of, hmac_of, mixed};
+ghost use Rattle.sig_jws.specs.Prepared.{AreKeyed};
 
 use sha2::{Digest, Sha256};
 
@@ -23,19 +24,57 @@ const OUTER_PAD: u8 = 0x5c;
 
 /// The 32 bytes of the MAC of a message under a key of any length (RFC 2104, section 2, with SHA-256). It takes no
 /// memory.
-#[tactic(auto, unfolding(crate::specs::Hmac::hmac_of))]
 pub fn hmac(key: &[u8], message: &[u8]) -> [u8; MAC_BYTES]
     ensures { result ≡ hmac_of key.now message.now }
 {
-    let block = block_from(key);
-    let mut inner = Sha256::new();
-    inner.update(&mixed_with(&block, INNER_PAD));
-    inner.update(message);
-    let inner = inner.finalize();
-    let mut outer = Sha256::new();
-    outer.update(&mixed_with(&block, OUTER_PAD));
-    outer.update(&inner);
-    outer.finalize()
+    Hashers::of(key).mac(message)
+}
+
+/// The hashers of the inner and of the outer digest under a key, each of which has taken in its block of the key.
+#[derive(Drop)]
+pub(crate) struct Hashers {
+    pub inner: Sha256,
+    pub outer: Sha256,
+}
+
+impl Hashers {
+    ghost use Rattle.std.specs.Prelude.{ℕ, List};
+
+    /// Those of a key.
+    pub fn of(key: &[u8]) -> Hashers
+        ensures { AreKeyed key.now result.inner result.outer }
+    {
+        let block = block_from(key);
+        let mut inner = Sha256::new();
+        inner.update(&mixed_with(&block, INNER_PAD));
+        let mut outer = Sha256::new();
+        outer.update(&mixed_with(&block, OUTER_PAD));
+        Hashers { inner, outer }
+    }
+
+    /// Equal ones. They take no memory.
+    pub fn copy(&self) -> Hashers
+        ensures { result ≡ self.now }
+    {
+        Hashers {
+            inner: self.inner.clone().unwrap(),
+            outer: self.outer.clone().unwrap(),
+        }
+    }
+
+    /// The MAC of a message under their key.
+    #[tactic(auto, unfolding(crate::specs::Hmac::hmac_of))]
+    pub fn mac(self, message: &[u8]) -> [u8; MAC_BYTES]
+        ensures { (key : List ℕ) → AreKeyed key self.inner self.outer → result ≡ hmac_of key message.now }
+    {
+        let Hashers {
+            mut inner,
+            mut outer,
+        } = self;
+        inner.update(message);
+        outer.update(&inner.finalize());
+        outer.finalize()
+    }
 }
 
 // The key as one block of the hash.

@@ -1,6 +1,6 @@
 //! The token of RFC 7515, section A.1, split and signed; and what no line of the cases says of keys and copies.
 
-use crate::{Key, key_of, sign, split, verifies};
+use crate::{Key, PreparedKey, key_of, sign, split, verifies};
 use sig_json::{Bytes, Copied, Same, Text};
 use std::test::Fail;
 
@@ -21,6 +21,16 @@ fn the_token_of_the_rfc_verifies(rt: HostRuntime) -> Result<(), Fail> {
     let token = split(rt.alloc(), TOKEN.as_bytes())?;
     assert!(rt; token.payload.as_slice() == PAYLOAD);
     assert!(rt; verifies(&token, key.as_slice()));
+    Ok(())
+}
+
+#[test]
+fn a_prepared_key_verifies_more_than_once(rt: HostRuntime) -> Result<(), Fail> {
+    let bytes = key_of(rt.alloc(), KEY)?.ok_or("a key")?;
+    let key = PreparedKey::of(Key { kid: None, bytes });
+    let token = split(rt.alloc(), TOKEN.as_bytes())?;
+    assert!(rt; key.verifies(&token));
+    assert!(rt; key.verifies(&token));
     Ok(())
 }
 
