@@ -10,7 +10,7 @@ use crate::refusal::refused;
 use crate::values::has_text;
 use crate::{Code, Refusal, Spot};
 use sig_json::{Value, text_of};
-use sig_jws::{Compact, Key, verifies};
+use sig_jws::{Compact, Key, PreparedKey};
 
 /// Whether the header's `typ` is that of a security event token.
 pub fn has_token_type(header: &Value) -> bool
@@ -30,7 +30,7 @@ fn is_token_type(text: &str) -> bool
 }
 
 /// That one of the keys signed the token: `InvalidKey` at `Alg`, `Kid` or `Mac`.
-pub fn verify(token: &Compact, header: &Value, keys: &[Key]) -> Result<(), Refusal>
+pub fn verify(token: &Compact, header: &Value, keys: &[PreparedKey]) -> Result<(), Refusal>
     ensures { result ≡ passed (key_checks (Some token.now) (Some (view header.now)) keys.now) }
 {
     if !has_text(header, "alg", "HS256") {
@@ -47,7 +47,7 @@ pub fn verify(token: &Compact, header: &Value, keys: &[Key]) -> Result<(), Refus
 }
 
 /// Whether some key may have signed a token whose header has this `kid`.
-fn has_candidate(kid: Option<&Value>, keys: &[Key]) -> bool
+fn has_candidate(kid: Option<&Value>, keys: &[PreparedKey]) -> bool
     ensures { result ≡ spec.has_candidate (option_map view (option_copied kid.entry)) keys.now }
 {
     for key in keys {
@@ -59,7 +59,7 @@ fn has_candidate(kid: Option<&Value>, keys: &[Key]) -> bool
 }
 
 /// Whether one of the keys that may have signed the token did.
-fn is_verified(token: &Compact, kid: Option<&Value>, keys: &[Key]) -> bool
+fn is_verified(token: &Compact, kid: Option<&Value>, keys: &[PreparedKey]) -> bool
     ensures { result ≡ spec.is_verified (Some token.now) (option_map view (option_copied kid.entry)) keys.now }
 {
     for key in keys {
@@ -70,18 +70,18 @@ fn is_verified(token: &Compact, kid: Option<&Value>, keys: &[Key]) -> bool
     false
 }
 
-fn is_signed(token: &Compact, key: &Key) -> bool
+fn is_signed(token: &Compact, key: &PreparedKey) -> bool
     ensures { result ≡ spec.is_signed (Some token.now) key.now }
 {
-    verifies(token, key.bytes.as_slice())
+    key.verifies(token)
 }
 
-fn is_candidate(kid: Option<&Value>, key: &Key) -> bool
+fn is_candidate(kid: Option<&Value>, key: &PreparedKey) -> bool
     ensures { result ≡ spec.is_candidate (option_map view (option_copied kid.entry)) key.now }
 {
     match kid {
         None => true,
-        Some(kid) => is_meant(kid, key),
+        Some(kid) => is_meant(kid, key.key()),
     }
 }
 

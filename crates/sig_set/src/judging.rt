@@ -11,9 +11,9 @@ use crate::header::verify;
 use crate::opening::{Opened, open};
 use crate::refusal::refused;
 use crate::values::has_text;
-use crate::{Claims, Code, Issuer, Refusal, Spot, Trust};
+use crate::{Claims, Code, PreparedIssuer, PreparedTrust, Refusal, Spot, Trust};
 use sig_json::{Items, Text, Value, text_of};
-use sig_jws::Key;
+use sig_jws::PreparedKey;
 use std::alloc::Global;
 
 /// The claims of a token, or the first check that fails (RFC 8417, section 2; RFC 7515, section 5.2; for `exp`, `sub`
@@ -37,10 +37,25 @@ use std::alloc::Global;
 ///    from 0 to 2^62 (`Iat`); there is neither `exp` (`Exp`) nor `sub` (`Sub`); `sub_id` is a subject (`SubId`); `events`
 ///    has a member (`Events`), and each, in byte order of its URI, is an event about the subject (`Event`).
 ///
-/// A `crit`, `exp` or `sub` of null is there too. Other members are passed over. `Memory` is out of memory.
+/// A `crit`, `exp` or `sub` of null is there too. Other members are passed over. `Memory` is out of memory. It prepares
+/// every key anew, so for many tokens over one trust take `judge_prepared`.
 pub fn judge(
     alloc: Global,
     trust: &Trust,
+    principal: Option<&Text>,
+    named: Option<&Text>,
+    bytes: &[u8],
+) -> Result<Claims, Refusal>
+    ensures { Answers Refusal.Memory result (result_of (judged trust.now (option_copied principal.entry) (option_copied named.entry) bytes.now)) }
+{
+    let prepared = PreparedTrust::of(alloc, trust)?;
+    judge_prepared(alloc, &prepared, principal, named, bytes)
+}
+
+/// The same, with the keys prepared once for many tokens over one trust.
+pub fn judge_prepared(
+    alloc: Global,
+    trust: &PreparedTrust,
     principal: Option<&Text>,
     named: Option<&Text>,
     bytes: &[u8],
@@ -59,7 +74,7 @@ pub fn judge(
 /// That the token is by an issuer who is trusted and for whom the bearer speaks, signed by a key of it, and for the
 /// trust's own audience.
 fn check_trust(
-    trust: &Trust,
+    trust: &PreparedTrust,
     principal: Option<&Text>,
     opened: &Opened,
     audience: &Option<Items<Text>>,
@@ -68,9 +83,9 @@ fn check_trust(
     ensures { result ≡ passed
         (trust_checks trust.now (option_copied principal.entry) (Some opened.now.token) (Some (view opened.now.header)) (Some (view opened.now.payload))) }
 {
-    let keys = keys_for(trust.issuers.as_slice(), principal, &opened.payload)?;
+    let keys = keys_for(trust.issuers(), principal, &opened.payload)?;
     verify(&opened.token, &opened.header, keys)?;
-    if !has_name(audience, trust.audience.as_str()) {
+    if !has_name(audience, trust.audience()) {
         return Err(refused(Code::InvalidAudience, Spot::Aud));
     }
     Ok(())
@@ -78,10 +93,10 @@ fn check_trust(
 
 /// The keys of the payload's issuer, where it is configured and the bearer speaks for it.
 fn keys_for<'a>(
-    issuers: &'a [Issuer],
+    issuers: &'a [PreparedIssuer],
     principal: Option<&Text>,
     payload: &Value,
-) -> Result<&'a [Key], Refusal>
+) -> Result<&'a [PreparedKey], Refusal>
     ensures checks { outcome result ≡ passed (issuer_checks issuers.now (option_copied principal.entry) (Some (view payload.now))) }
     ensures keys { IfOk result (λ keys. keys.now ≡ keys_in issuers.now (Some (view payload.now))) }
 {
@@ -91,11 +106,11 @@ fn keys_for<'a>(
     if !speaks_for(principal, payload) {
         return Err(refused(Code::AccessDenied, Spot::Iss));
     }
-    Ok(issuer.keys.as_slice())
+    Ok(issuer.keys())
 }
 
 /// The issuer that the payload names.
-fn issuer_in<'a>(issuers: &'a [Issuer], payload: &Value) -> Option<&'a Issuer>
+fn issuer_in<'a>(issuers: &'a [PreparedIssuer], payload: &Value) -> Option<&'a PreparedIssuer>
     ensures { option_map (λ issuer. issuer.now) result ≡ issuer_in issuers.now (Some (view payload.now)) }
 {
     match text_of(payload, "iss") {
@@ -105,10 +120,10 @@ fn issuer_in<'a>(issuers: &'a [Issuer], payload: &Value) -> Option<&'a Issuer>
 }
 
 /// The first issuer of this name.
-fn issuer_named<'a>(iss: &str, issuers: &'a [Issuer]) -> Option<&'a Issuer>
+fn issuer_named<'a>(iss: &str, issuers: &'a [PreparedIssuer]) -> Option<&'a PreparedIssuer>
     ensures { option_map (λ issuer. issuer.now) result ≡ issuer_named iss.now issuers.now }
 {
-    issuers.iter().find(|issuer| issuer.iss.as_str() == iss)
+    issuers.iter().find(|issuer| issuer.is_named(iss))
 }
 
 /// Whether the principal is the payload's issuer.

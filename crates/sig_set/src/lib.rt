@@ -8,7 +8,8 @@
 //! (`specs/Judgement`); what a payload says is a relation, and its reading is that relation (`specs/Claims`); what is
 //! written of claims is that of `specs/Written`. What a valid token is stands in one record above the checks (`IsValid` of
 //! `specs/Laws`), and what is judged valid is that. What is written of proper claims is judged valid with these claims, and
-//! the claims of a token that is valid are read without its key (`laws`). Left out: forging, and the secrecy of keys.
+//! the claims of a token that is valid are read without its key (`laws`). A receiver prepares the keys that it trusts once for
+//! all tokens (`PreparedTrust`). Left out: forging, and the secrecy of keys.
 #![tactic(auto)]
 
 mod audience;
@@ -17,6 +18,7 @@ mod header;
 mod judging;
 pub mod laws;
 mod opening;
+mod prepared;
 mod reading;
 mod refusal;
 #[cfg(test)]
@@ -26,7 +28,8 @@ mod trust;
 mod values;
 mod writing;
 
-pub use judging::judge;
+pub use judging::{judge, judge_prepared};
+pub use prepared::{PreparedIssuer, PreparedTrust};
 pub use reading::{ClaimsFault, claims_of};
 pub use refusal::{Code, Refusal, Spot};
 pub use sig_event::Claims;
