@@ -5,6 +5,6 @@ pub mod NameLemmas
 pub mod RoomLemmas
 pub mod PlaceLemmas
 pub mod FoundLemmas
-pub mod CreatedBooks
-pub mod PublishedBooks
-pub mod SettledBooks
+pub mod IssuedLemmas
+pub mod ChangeLemmas
+pub mod TakenBooks

@@ -36,3 +36,16 @@ filter_mapped p f (x ∷ xs) =
       | true ↦ ap (λ l. f x ∷ l) (filter_mapped p f xs)
       | false ↦ filter_mapped p f xs
     ]
+
+pub filter_alike : {X : Type 0} (p q : X → Bool) → ((x : X) → p x ≡ q x) → (xs : List X) → filter p xs ≡ filter q xs
+filter_alike p q same [] = refl
+filter_alike p q same (x ∷ xs) =
+    ap (λ b. if b then x ∷ filter p xs else filter p xs) (same x) ∙ ap (λ l. if q x then x ∷ l else l) (filter_alike p q same xs)
+
+pub map_alike : {X Y : Type 0} (f g : X → Y) → ((x : X) → f x ≡ g x) → (xs : List X) → map f xs ≡ map g xs
+map_alike f g same [] = refl
+map_alike f g same (x ∷ xs) = ap (λ y. y ∷ map f xs) (same x) ∙ ap (λ l. g x ∷ l) (map_alike f g same xs)
+
+pub filter_none : {X : Type 0} (p : X → Bool) → ((x : X) → p x ≡ false) → (xs : List X) → filter p xs ≡ []
+filter_none p none [] = refl
+filter_none p none (x ∷ xs) = ap (λ b. if b then x ∷ filter p xs else filter p xs) (none x) ∙ filter_none p none xs

@@ -6,13 +6,16 @@ use Rattle.sig_subject.specs.declared.subject.Subject.TheVariants as subject
 use Rattle.sig_event.specs.declared.event.Event.TheVariants as event
 use Rattle.sig_event.specs.declared.claims.Claims.{Claims}
 use Rattle.sig_event.specs.declared.news.News.{News}
+use Rattle.sig_event.specs.declared.status.Status.{Status}
 use Rattle.sig_terms.specs.declared.fact.Fact.{Fact}
-use Rattle.sig_history.specs.Streams.{Stream, Count, Publication, Made, claims_for, hyphen, is_before, is_named}
+use Rattle.sig_terms.specs.declared.token.Issued.{Issued}
+use Rattle.sig_history.specs.Streams.{Stream, Count, Publication, Made, claims_for, hyphen, is_before, is_disabled, is_due, is_named, with_asked, with_made, with_status}
 use Rattle.sig_history.specs.Facts.{is_told, stream_after, time_of, updated_news, verified_news}
 use Rattle.sig_history.specs.Owed.{Sum, takes_off}
 use Rattle.sig_history.specs.Standings.{Standing, sum_with}
 use Rattle.sig_history.specs.Whole.{IsWhole}
 use Rattle.sig_ledger.specs.declared.debt.Debt.{Debt}
+use Rattle.sig_ledger.specs.declared.debt.Notice.{Notice}
 use Rattle.sig_ledger.specs.declared.debt.Said.{Said}
 use Rattle.sig_ledger.specs.declared.debt.Said.TheVariants as said
 
@@ -108,6 +111,15 @@ abbrev pub owing_named : List ℕ → List Owing → Option Owing
 owing_named name [] = None
 owing_named name (o ∷ os) = if is_named name o.stream then Some o else owing_named name os
 
+-- whether a stream that is held has this name
+abbrev pub has_name : List ℕ → Balance → Bool
+has_name name b = is_named name b.owing.stream
+
+-- the tokens that a fact makes, by stream and number
+abbrev pub issued_by : Fact → List Stream → List Issued
+issued_by f [] = []
+issued_by f (s ∷ ss) = if is_told f s then record { stream = s.conf.stream; number = s.made + 1 } ∷ issued_by f ss else issued_by f ss
+
 -- a stream that was just made
 abbrev pub opened : Stream → Owing
 opened s = record { stream = s; owed = [] }
@@ -133,6 +145,44 @@ client_owing client name (o ∷ os) =
 -- a debt that is made of a stream, with what it says
 abbrev pub next_debt : ℕ → Said → Stream → Debt
 next_debt time said s = record { number = s.made + 1; time = time; said = said }
+
+-- a stream with one more token, with another part, and with a status: where that disables it, it owes nothing
+abbrev pub owing_told : ℕ → Said → Owing → Owing
+owing_told time said o = record { stream = with_made (o.stream.made + 1) o.stream; owed = o.owed ++ next_debt time said o.stream ∷ [] }
+
+abbrev pub owing_with : Stream → Owing → Owing
+owing_with s o = record { stream = s; owed = o.owed }
+
+abbrev pub owing_set : Status → Option (List ℕ) → Owing → Owing
+owing_set status reason o = record {
+  stream = with_status status reason o.stream;
+  owed = if is_disabled status then [] else o.owed;
+}
+
+-- without the tokens of these numbers
+abbrev pub owing_settled : (ℕ → Bool) → Owing → Owing
+owing_settled is_settled o = record { stream = o.stream; owed = filter (λ (d : Debt). not (is_settled d.number)) o.owed }
+
+-- with one more token: where there is a notice, where the publication at a place is due, and where a verification was asked for
+abbrev pub owing_noted : Option Notice → Owing → Owing
+owing_noted None o = o
+owing_noted (Some n) o = owing_told n.time n.said o
+
+abbrev pub owing_heard : News → ℕ → ℕ → Owing → Owing
+owing_heard n time place o = if is_due n o.stream then owing_told time (said.Published place) o else o
+
+abbrev pub owing_asked : Option (List ℕ) → ℕ → Owing → Owing
+owing_asked state time o = owing_told time (said.Verified state) (owing_with (with_asked time o.stream) o)
+
+-- what tells of a status that the operator set
+abbrev pub notice_for : Status → Option (List ℕ) → Bool → ℕ → Option Notice
+notice_for status reason operator time =
+    if operator then Some (record { time = time; said = said.Updated status reason }) else None
+
+-- the first of a name changed
+abbrev pub first_changed : List ℕ → (Owing → Owing) → List Owing → List Owing
+first_changed name change [] = []
+first_changed name change (o ∷ os) = if is_named name o.stream then change o ∷ os else o ∷ first_changed name change os
 
 -- what is left of what a stream owes after a fact, before what the fact makes
 abbrev pub left_by : Fact → Stream → List Debt → List Debt

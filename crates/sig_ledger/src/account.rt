@@ -1,24 +1,32 @@
 //! A stream as it is held in memory.
 
-ghost use Rattle.std.specs.Prelude.{◌≡◌, ◌+◌, ◌<◌, ◌^◌, [], OnOk, true};
+ghost use Rattle.std.specs.Prelude.{◌≡◌, ◌+◌, ◌<◌, ◌≤◌, ◌^◌, OnOk, is_some, nat_eq, true};
+ghost use Rattle.std.specs.List.{list_any};
+ghost use Rattle.indexmap.specs.IndexSet.{contains};
+ghost use Rattle.sig_subject.specs.Matching.{is_identical};
+ghost use Rattle.sig_history.specs.Facts as facts;
 ghost use Rattle.sig_history.specs.Streams as streams;
-ghost use Rattle.sig_subject.specs.declared.subject.Subject.{Subject};
-ghost use Rattle.sig_terms.specs.Fitting.{fits};
 
-use crate::debt::Debt;
-use crate::names::{client_in, names_number};
-use sig_event::News;
-use sig_json::{Memory, Text};
-use sig_terms::{Defaults, SettledItem, StreamConf, delivers};
+use crate::debt::{Debt, Notice, Said};
+use crate::names::client_in;
+use indexmap::IndexSet;
+use sig_event::{News, Status};
+use sig_json::{Items, Memory, Text};
+use sig_subject::{Subject, identical};
+use sig_terms::{Delivery, Fact, StreamConf, delivers, fits_listed};
 use std::alloc::Global;
 use std::marker::Model;
 
-/// A stream that stands, with the tokens that it owes. Contracts see it as its stream, what it owes in small, and the number
-/// of further tokens for which there is room.
+/// A stream that stands, with the tokens that it owes. Contracts see it as its stream, what it owes in small, and the numbers
+/// of further tokens and of further subjects for which there is room.
 #[derive(Debug, Drop)]
 pub struct Account {
     number: u64,
     conf: StreamConf,
+    status: Status,
+    reason: Option<Text>,
+    listed: Vec<Subject>,
+    asked: Option<u64>,
     made: u64,
     owed: Vec<Debt>,
 }
@@ -32,24 +40,32 @@ impl Model for Account {
 
     ghost view = { λ a. record {
       owing = record {
-        stream = record { client = client_in a.conf.stream; number = a.number; conf = a.conf; made = a.made };
+        stream = record {
+          client = client_in a.conf.stream; number = a.number; conf = a.conf; status = a.status; reason = a.reason;
+          listed = a.listed.items; asked = a.asked; made = a.made;
+        };
         owed = a.owed.items;
       };
       room = vec_capacity a.owed - vec_len a.owed;
+      subjects = vec_capacity a.listed - vec_len a.listed;
     } };
 }
 
 impl Account {
-    ghost use Rattle.sig_ledger.specs.Books.{Balance, opened_balance, charged, paid};
+    ghost use Rattle.sig_ledger.specs.Books.{Balance, opened_balance, owing_asked, owing_heard, owing_noted, owing_set, owing_settled, owing_told, owing_with, room_in, subjects_in};
     ghost use Rattle.sig_ledger.specs.Room.{HasRoomFor};
 
-    /// A new stream, for which no token was made. It takes no memory.
+    /// A new stream: it is enabled, has nobody on its list, and no token was made for it. It takes no memory.
     pub(crate) fn open(alloc: Global, number: u64, conf: StreamConf) -> Account
-        ensures { result ≡ opened_balance (record { client = streams.client_in conf.stream; number = number; conf = conf; made = 0 }) }
+        ensures { result ≡ opened_balance (facts.new_stream (streams.client_in conf.stream) number conf) }
     {
         Account {
             number,
             conf,
+            status: Status::Enabled,
+            reason: None,
+            listed: Vec::new(alloc),
+            asked: None,
             made: 0,
             owed: Vec::new(alloc),
         }
@@ -67,6 +83,34 @@ impl Account {
         ensures { result.now ≡ self.now.owing.stream.client }
     {
         client_in(self.conf.stream.as_str())
+    }
+
+    /// Its status (Shared Signals Framework 1.0, section 8.1.2).
+    pub fn status(&self) -> Status
+        ensures { result ≡ self.now.owing.stream.status }
+    {
+        self.status
+    }
+
+    /// Why its status was set.
+    pub fn reason(&self) -> &Option<Text>
+        ensures { result.now ≡ self.now.owing.stream.reason }
+    {
+        &self.reason
+    }
+
+    /// The subjects on its list, in the order in which they were put there.
+    pub fn listed(&self) -> &[Subject]
+        ensures { result.now ≡ self.now.owing.stream.listed }
+    {
+        self.listed.as_slice()
+    }
+
+    /// When a verification was last asked for, in seconds since 1970.
+    pub fn asked(&self) -> Option<u64>
+        ensures { result ≡ self.now.owing.stream.asked }
+    {
+        self.asked
     }
 
     /// How many tokens were made for it.
@@ -99,54 +143,172 @@ impl Account {
         client < other_client || (client == other_client && self.number < other.number)
     }
 
-    /// Whether news are due on it (Shared Signals Framework 1.0, sections 7 and 8.1.1).
+    /// Whether news are due on it: it isn't disabled, and has the event and the subject (Shared Signals Framework 1.0,
+    /// sections 7, 8.1.1 and 8.1.2).
     pub fn is_due(&self, news: &News) -> bool
         ensures { result ≡ streams.is_due news.now self.now.owing.stream }
     {
-        delivers(&self.conf, news.event.uri()) && has_all_subjects(self.conf.defaults)
+        !is_disabled(self.status)
+            && delivers(&self.conf, news.event.uri())
+            && fits_listed(self.conf.defaults, self.listed.as_slice(), &news.subject)
     }
 
-    /// Room for one more token, where news are due on it.
-    pub(crate) fn reserve_for(&mut self, news: &News) -> Result<(), Memory>
-        ensures same { self.new.owing ≡ self.old.owing }
-        ensures ok { OnOk result (HasRoomFor news.now self.new) }
+    /// Whether a fact tells it something, by one more token.
+    pub fn is_told(&self, fact: &Fact) -> bool
+        ensures { result ≡ facts.is_told fact.now self.now.owing.stream }
     {
-        if self.is_due(news) {
+        match fact {
+            Fact::StatusSet {
+                stream, operator, ..
+            } => *operator && self.is_named(stream.as_str()),
+            Fact::Published { news, .. } => self.is_due(news),
+            Fact::Asked { stream, .. } => self.is_named(stream.as_str()),
+            _ => false,
+        }
+    }
+
+    /// Whether a subject that is identical to this one is on its list.
+    pub fn is_listed(&self, subject: &Subject) -> bool
+        ensures { result ≡ list_any (is_identical subject.now) self.now.owing.stream.listed }
+    {
+        for other in self.listed.as_slice() {
+            if identical(subject, other) {
+                return true;
+            }
+        }
+        false
+    }
+
+    /// Room for one more token, where a fact tells it something.
+    pub(crate) fn reserve_token(&mut self, fact: &Fact) -> Result<(), Memory>
+        ensures same { self.new.owing ≡ self.old.owing }
+        ensures ok { OnOk result (HasRoomFor (facts.is_told fact.now) room_in self.new) }
+    {
+        if self.is_told(fact) {
             self.owed.reserve(1)?;
         }
         Ok(())
     }
 
+    /// Room for one more subject on its list, where it has this name.
+    pub(crate) fn reserve_subject(&mut self, name: &str) -> Result<(), Memory>
+        ensures same { self.new.owing ≡ self.old.owing }
+        ensures ok { OnOk result (HasRoomFor (streams.is_named name.now) subjects_in self.new) }
+    {
+        if self.is_named(name) {
+            self.listed.reserve(1)?;
+        }
+        Ok(())
+    }
+
+    /// Makes a token. It takes no memory.
+    pub(crate) fn tell(&mut self, time: u64, said: Said)
+        requires room { 0 < self.old.room }
+        requires number { self.old.owing.stream.made + 1 < 2 ^ 64 }
+        ensures { self.new.owing ≡ owing_told time said self.old.owing }
+    {
+        self.made += 1;
+        let number = self.made;
+        // There is room, so the push keeps the debt.
+        let _ = self.owed.push(Debt { number, time, said });
+    }
+
     /// Makes a token, where the publication at a place is due on it. It takes no memory.
-    pub(crate) fn charge(&mut self, news: &News, time: u64, place: usize)
-        requires room { streams.is_due news.now self.old.owing.stream ≡ true → 0 < self.old.room }
-        requires number { streams.is_due news.now self.old.owing.stream ≡ true → self.old.owing.stream.made + 1 < 2 ^ 64 }
-        ensures { self.new.owing ≡ charged news.now time place self.old.owing }
+    pub(crate) fn hear(&mut self, news: &News, time: u64, place: usize)
+        requires room { HasRoomFor (streams.is_due news.now) room_in self.old }
+        requires number { self.old.owing.stream.made + 1 < 2 ^ 64 }
+        ensures { self.new.owing ≡ owing_heard news.now time place self.old.owing }
     {
         if self.is_due(news) {
-            self.made += 1;
-            // The caller has made room, so the push keeps the debt.
-            let _ = self.owed.push(Debt {
-                number: self.made,
-                time,
-                place,
-            });
+            self.tell(time, Said::Published { place });
         }
     }
 
-    /// Takes off the tokens that the items name, where it has this name. It takes no memory.
-    pub(crate) fn settle(&mut self, stream: &Text, items: &[SettledItem])
-        ensures { self.new.owing ≡ paid stream.now items.now self.old.owing }
+    /// Sets what a receiver may set of its configuration. It takes no memory.
+    pub(crate) fn configure(
+        &mut self,
+        requested: Option<Items<Text>>,
+        delivery: Delivery,
+        description: Option<Text>,
+    )
+        ensures { self.new.owing ≡ owing_with (streams.with_conf (facts.configured requested delivery description self.old.owing.stream.conf) self.old.owing.stream) self.old.owing }
     {
-        if self.is_named(stream.as_str()) {
-            self.owed.retain(|debt| !names_number(debt.number, items));
+        self.conf.requested = requested;
+        self.conf.delivery = delivery;
+        self.conf.description = description;
+    }
+
+    // Sets its status, and why. Where that disables it, it owes nothing any more.
+    fn set_status(&mut self, status: Status, reason: Option<Text>)
+        ensures owing { self.new.owing ≡ owing_set status reason self.old.owing }
+        ensures room { self.old.room ≤ self.new.room }
+    {
+        self.status = status;
+        self.reason = reason;
+        if is_disabled(status) {
+            self.owed.clear();
         }
+    }
+
+    /// Sets its status, and why, and makes a token where there is a notice. It takes no memory.
+    pub(crate) fn note_status(
+        &mut self,
+        status: Status,
+        reason: Option<Text>,
+        notice: Option<Notice>,
+    )
+        requires room { is_some notice ≡ true → 0 < self.old.room }
+        requires number { self.old.owing.stream.made + 1 < 2 ^ 64 }
+        ensures { self.new.owing ≡ owing_noted notice (owing_set status reason self.old.owing) }
+    {
+        self.set_status(status, reason);
+        if let Some(notice) = notice {
+            self.tell(notice.time, notice.said);
+        }
+    }
+
+    /// Puts a subject at the end of its list, unless an identical one is there. It takes no memory.
+    pub(crate) fn list(&mut self, subject: Subject)
+        requires { 0 < self.old.subjects }
+        ensures { self.new.owing ≡ owing_with (streams.with_listed (streams.list_added subject self.old.owing.stream.listed) self.old.owing.stream) self.old.owing }
+    {
+        if !self.is_listed(&subject) {
+            // There is room, so the push keeps the subject.
+            let _ = self.listed.push(subject);
+        }
+    }
+
+    /// Takes a subject off its list. It takes no memory.
+    pub(crate) fn unlist(&mut self, subject: &Subject)
+        ensures { self.new.owing ≡ owing_with (streams.with_listed (streams.list_removed subject.now self.old.owing.stream.listed) self.old.owing.stream) self.old.owing }
+    {
+        self.listed.retain(|other| !identical(subject, other));
+    }
+
+    /// Takes off the tokens of these numbers. It takes no memory.
+    pub(crate) fn settle(&mut self, numbers: &IndexSet<u64>)
+        ensures { self.new.owing ≡ owing_settled (contains nat_eq numbers.now) self.old.owing }
+    {
+        self.owed.retain(|debt| !numbers.contains(&debt.number));
+    }
+
+    /// Notes when a verification was asked for, and makes its token. It takes no memory.
+    pub(crate) fn verify(&mut self, state: Option<Text>, time: u64)
+        requires room { 0 < self.old.room }
+        requires number { self.old.owing.stream.made + 1 < 2 ^ 64 }
+        ensures { self.new.owing ≡ owing_asked state time self.old.owing }
+    {
+        self.asked = Some(time);
+        self.tell(time, Said::Verified { state });
     }
 }
 
-// Whether every subject is one of the stream's; no stream has added or removed one so far.
-fn has_all_subjects(defaults: Defaults) -> bool
-    ensures { (subject : Subject) → result ≡ fits defaults [] subject }
+// Whether a stream of this status makes no tokens of what is published.
+fn is_disabled(status: Status) -> bool
+    ensures { result ≡ streams.is_disabled status }
 {
-    defaults == Defaults::All
+    match status {
+        Status::Enabled | Status::Paused => false,
+        Status::Disabled => true,
+    }
 }

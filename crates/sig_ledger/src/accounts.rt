@@ -1,15 +1,17 @@
 //! Lists of streams as they are held in memory.
 
-ghost use Rattle.std.specs.Prelude.{◌≡◌, ◌+◌, ◌<◌, ◌≤◌, All, OnOk, None, length, map, option_map, vec_len, vec_capacity};
-ghost use Rattle.std.specs.List.{insert, slice_get};
+ghost use Rattle.std.specs.Prelude.{◌≡◌, ◌+◌, ◌<◌, ◌≤◌, All, IfOk, OnOk, None, length, map, option_map, vec_len, vec_capacity};
+ghost use Rattle.std.specs.List.{insert, position_or_len, slice_get};
+ghost use Rattle.sig_history.specs.Facts.{is_told};
 ghost use Rattle.sig_history.specs.Streams as streams;
-ghost use Rattle.sig_ledger.specs.Books.{Balance, owing_in, stream_in, owing_named, put_balance, charged, paid};
+ghost use Rattle.sig_ledger.specs.Books.{Balance, client_owing, has_name, issued_by, owing_heard, owing_in, owing_named, put_balance, room_in, stream_in, subjects_in};
 ghost use Rattle.sig_ledger.specs.Room.{HasRoomFor, IsBelowTop};
 
 use crate::account::Account;
 use sig_event::News;
-use sig_json::{Memory, Text};
-use sig_terms::SettledItem;
+use sig_json::{Items, Memory, Text};
+use sig_terms::{Fact, Issued};
+use std::alloc::Global;
 
 /// The first stream of a name.
 pub(crate) fn account_named<'a>(accounts: &'a [Account], name: &str) -> Option<&'a Account>
@@ -17,6 +19,22 @@ pub(crate) fn account_named<'a>(accounts: &'a [Account], name: &str) -> Option<&
 {
     for account in accounts {
         if account.is_named(name) {
+            return Some(account);
+        }
+    }
+    None
+}
+
+/// The client's stream of a name.
+pub(crate) fn client_account<'a>(
+    accounts: &'a [Account],
+    client: &str,
+    name: &str,
+) -> Option<&'a Account>
+    ensures { option_map (λ a. a.now.owing) result ≡ client_owing client.now name.now (map owing_in accounts.now) }
+{
+    for account in accounts {
+        if account.client() == client && account.is_named(name) {
             return Some(account);
         }
     }
@@ -59,35 +77,71 @@ pub(crate) fn put(accounts: &mut Vec<Account>, new: Account)
     let _ = accounts.insert(place, new);
 }
 
-/// Room for one more token on each stream on which news are due.
-pub(crate) fn reserve_due(accounts: &mut [Account], news: &News) -> Result<(), Memory>
+/// The place of the first stream of a name; how many there are where none has it.
+pub(crate) fn place_named(accounts: &[Account], name: &str) -> usize
+    ensures { result ≡ position_or_len (has_name name.now) accounts.now }
+{
+    for (place, account) in accounts.iter().enumerate() {
+        if account.is_named(name) {
+            return place;
+        }
+    }
+    accounts.len()
+}
+
+/// Room for one more token on each stream that a fact tells something.
+pub(crate) fn reserve_tokens(accounts: &mut [Account], fact: &Fact) -> Result<(), Memory>
     ensures same { map owing_in accounts.new ≡ map owing_in accounts.old }
-    ensures ok { OnOk result (All (HasRoomFor news.now) accounts.new) }
+    ensures ok { OnOk result (All (HasRoomFor (is_told fact.now) room_in) accounts.new) }
 {
     for account in accounts.iter_mut() {
-        account.reserve_for(news)?;
+        account.reserve_token(fact)?;
     }
     Ok(())
 }
 
-/// Makes a token on each stream on which the publication at a place is due.
-pub(crate) fn charge_all(accounts: &mut [Account], news: &News, time: u64, place: usize)
-    requires rooms { All (HasRoomFor news.now) accounts.old }
-    requires numbers { All (IsBelowTop news.now) accounts.old }
-    ensures { map owing_in accounts.new ≡ map (charged news.now time place) (map owing_in accounts.old) }
+/// Room for one more subject on the list of the stream of a name.
+pub(crate) fn reserve_subjects(accounts: &mut [Account], name: &str) -> Result<(), Memory>
+    ensures same { map owing_in accounts.new ≡ map owing_in accounts.old }
+    ensures ok { OnOk result (All (HasRoomFor (streams.is_named name.now) subjects_in) accounts.new) }
 {
     for account in accounts.iter_mut() {
-        account.charge(news, time, place);
+        account.reserve_subject(name)?;
+    }
+    Ok(())
+}
+
+/// Makes a token on each stream on which the publication at a place is due. It takes no memory.
+pub(crate) fn hear_all(accounts: &mut [Account], news: &News, time: u64, place: usize)
+    requires rooms { All (HasRoomFor (streams.is_due news.now) room_in) accounts.old }
+    requires numbers { All IsBelowTop accounts.old }
+    ensures { map owing_in accounts.new ≡ map (owing_heard news.now time place) (map owing_in accounts.old) }
+{
+    for account in accounts.iter_mut() {
+        account.hear(news, time, place);
     }
 }
 
-/// Takes off the tokens of a stream that the items name.
-pub(crate) fn settle_in(accounts: &mut [Account], stream: &Text, items: &[SettledItem])
-    ensures { map owing_in accounts.new ≡ map (paid stream.now items.now) (map owing_in accounts.old) }
+/// The tokens that a fact makes, by stream and number.
+pub(crate) fn issued_on(
+    alloc: Global,
+    accounts: &[Account],
+    fact: &Fact,
+) -> Result<Items<Issued>, Memory>
+    requires { All IsBelowTop accounts.now }
+    ensures { IfOk result (λ items. items ≡ issued_by fact.now (map stream_in (map owing_in accounts.now))) }
 {
-    for account in accounts.iter_mut() {
-        account.settle(stream, items);
+    let mut issued = Vec::new(alloc);
+    for account in accounts {
+        if account.is_told(fact) {
+            let token = Issued {
+                stream: account.conf().stream.copy(alloc)?,
+                number: account.made() + 1,
+            };
+            issued.push(token)?;
+        }
     }
+    Ok(Items::of(issued))
 }
 
 /// The name of the stream at a place.

@@ -33,3 +33,12 @@ pub enum Said {
         reason: Option<Text>,
     },
 }
+
+/// A token to be made: when, and what it says.
+#[derive(Debug, Drop)]
+pub(crate) struct Notice {
+    /// In seconds since 1970.
+    pub time: u64,
+    /// What it says.
+    pub said: Said,
+}

@@ -1,18 +1,18 @@
-ghost use Rattle.std.specs.Prelude.{◌≡◌, ℕ, ◌+◌, ◌<◌, [], ◌∷◌, IfOk, OnOk, length, map, option_map};
+//! What a transmitter holds.
+
+ghost use Rattle.std.specs.Prelude.{◌≡◌, length, map, option_map};
+
+mod committing;
+mod readying;
 
 use crate::account::Account;
-use crate::accounts::{
-    account_named, charge_all, name_at, put, reserve_due, settle_in, streams_of,
-};
+use crate::accounts::{account_named, client_account, name_at, streams_of};
 use crate::counted::Counted;
-use crate::counts::{count_one, created_by};
-use crate::places::{enter_place, place_of, reserve_place};
-use crate::prepared::Prepared;
+use crate::counts::created_by;
+use crate::places::place_of;
 use crate::publication::{Publication, publication_at};
 use indexmap::IndexMap;
-use sig_event::News;
-use sig_json::{Items, Memory, Text};
-use sig_terms::{Fact, Issued, SettledItem, StreamConf};
+use sig_json::Text;
 use std::alloc::Global;
 use std::marker::Model;
 
@@ -33,7 +33,7 @@ pub struct Ledger {
 impl Model for Ledger {
     ghost use Rattle.std.specs.Prelude.{◌-◌, bytes_eq, map, vec_len, vec_capacity};
     ghost use Rattle.indexmap.specs.IndexMap.{get, spare};
-    ghost use Rattle.sig_ledger.specs.Books.{AreKept, owing_in, room_in};
+    ghost use Rattle.sig_ledger.specs.Books.{AreKept, owing_in, room_in, subjects_in};
     ghost use Rattle.sig_ledger.specs.Places.{IsIndex};
     ghost use Rattle.sig_ledger.specs.Room.{Held};
 
@@ -52,6 +52,7 @@ impl Model for Ledger {
         published = vec_capacity l.published - vec_len l.published;
         ids = spare l.places;
         tokens = map room_in l.accounts.items;
+        subjects = map subjects_in l.accounts.items;
       };
     } };
 
@@ -65,14 +66,9 @@ impl Model for Ledger {
 
 impl Ledger {
     ghost use Rattle.std.specs.List.{slice_get};
-    ghost use Rattle.sig_history.specs.Facts.{made_by};
-    ghost use Rattle.sig_history.specs.Owed.{empty_sum, owed_count, sum_of};
-    ghost use Rattle.sig_history.specs.Sound.{Fits};
+    ghost use Rattle.sig_history.specs.Owed.{empty_sum, owed_count};
     ghost use Rattle.sig_history.specs.Streams as streams;
-    ghost use Rattle.sig_history.specs.Streams.{client_in, issued_of};
-    ghost use Rattle.sig_ledger.specs.Books.{AreKept, owing_in, owing_named, sum_in};
-    ghost use Rattle.sig_ledger.specs.Room.{HasRoom, HaveRoom};
-    ghost use Rattle.sig_terms.specs.declared.fact.Fact.TheVariants.{Created, Published, Settled};
+    ghost use Rattle.sig_ledger.specs.Books.{AreKept, client_owing, owing_in, owing_named, sum_in};
 
     /// A new store's: no stream stands. It takes no memory.
     pub fn new(alloc: Global, store_id: [u8; 16]) -> Ledger
@@ -121,6 +117,14 @@ impl Ledger {
         ensures kept { AreKept self.now.books }
     {
         account_named(self.accounts.as_slice(), name)
+    }
+
+    /// The client's stream of a name.
+    pub fn client_account(&self, client: &Text, stream: &Text) -> Option<&Account>
+        ensures found { option_map (λ a. a.now.owing) result ≡ client_owing client.now stream.now self.now.books.owings }
+        ensures kept { AreKept self.now.books }
+    {
+        client_account(self.accounts.as_slice(), client.as_str(), stream.as_str())
     }
 
     /// All that was published, in order.
@@ -176,90 +180,5 @@ impl Ledger {
         ensures { option_map (λ name. name.now) result ≡ slice_get (map (λ (s : streams.Stream). s.conf.stream) (sum_in self.now.books).parts.streams) place }
     {
         name_at(self.accounts.as_slice(), place)
-    }
-
-    /// Room for one more stream, and for its client's count.
-    pub fn reserve_stream(&mut self) -> Result<(), Memory>
-        ensures books { self.new.books ≡ self.old.books }
-        ensures streams { OnOk result (0 < self.new.room.streams) }
-        ensures counts { OnOk result (0 < self.new.room.created) }
-    {
-        self.accounts.reserve(1)?;
-        self.created.reserve(1)?;
-        Ok(())
-    }
-
-    /// Room for one more publication with its id, and for one more token of each stream on which its news are due.
-    pub fn reserve_publication(&mut self, news: &News) -> Result<(), Memory>
-        ensures books { self.new.books ≡ self.old.books }
-        ensures published { OnOk result (0 < self.new.room.published) }
-        ensures ids { OnOk result (0 < self.new.room.ids) }
-        ensures tokens { OnOk result (HaveRoom news.now (sum_in self.new.books).parts.streams self.new.room.tokens) }
-    {
-        self.published.reserve(1)?;
-        reserve_place(&mut self.places)?;
-        reserve_due(self.accounts.as_mut_slice(), news)
-    }
-
-    /// Takes in a fact that fits, and for which there is room. It takes no memory.
-    pub fn commit(&mut self, prepared: Prepared)
-        requires fits { Fits (sum_in self.old.books) prepared.fact }
-        requires room { HasRoom (sum_in self.old.books).parts self.old.room prepared }
-        ensures { sum_in self.new.books ≡ sum_of (sum_in self.old.books) (prepared.fact ∷ []) }
-    {
-        let (fact, client, key, issued) = prepared.into_parts();
-        match fact {
-            Fact::Created { conf, time: _ } => self.take_stream(conf, client),
-            Fact::Published { id, news, time } => self.take_publication(
-                key, id, news, time, issued,
-            ),
-            Fact::Settled { stream, items } => self.take_settlement(stream, items),
-        }
-    }
-
-    // A stream was made, by the client of this name.
-    fn take_stream(&mut self, conf: StreamConf, client: Text)
-        requires client { client ≡ client_in conf.stream }
-        requires fits { (time : ℕ) → Fits (sum_in self.old.books) (Created conf time) }
-        requires streams { 0 < self.old.room.streams }
-        requires counts { 0 < self.old.room.created }
-        ensures { (time : ℕ) → sum_in self.new.books ≡ sum_of (sum_in self.old.books) (Created conf time ∷ []) }
-    {
-        let number = created_by(self.created.as_slice(), &client) + 1;
-        let account = Account::open(self.alloc, number, conf);
-        put(&mut self.accounts, account);
-        count_one(&mut self.created, client);
-    }
-
-    // News were published, and made these tokens; the key is the id again, for the index.
-    fn take_publication(
-        &mut self,
-        key: Text,
-        id: Text,
-        news: News,
-        time: u64,
-        issued: Items<Issued>,
-    )
-        requires key { key ≡ id }
-        requires issued { issued ≡ map issued_of (made_by (sum_in self.old.books).parts (Published id news time)) }
-        requires fits { Fits (sum_in self.old.books) (Published id news time) }
-        requires published { 0 < self.old.room.published }
-        requires ids { 0 < self.old.room.ids }
-        requires tokens { HaveRoom news (sum_in self.old.books).parts.streams self.old.room.tokens }
-        ensures { sum_in self.new.books ≡ sum_of (sum_in self.old.books) (Published id news time ∷ []) }
-    {
-        let place = self.published.len();
-        charge_all(self.accounts.as_mut_slice(), &news, time, place);
-        enter_place(&mut self.places, key, place);
-        // There is room, so the push keeps the publication.
-        let _ = self.published.push(Publication::of(id, news, issued));
-    }
-
-    // Tokens of a stream were settled.
-    fn take_settlement(&mut self, stream: Text, items: Items<SettledItem>)
-        requires fits { Fits (sum_in self.old.books) (Settled stream items) }
-        ensures { sum_in self.new.books ≡ sum_of (sum_in self.old.books) (Settled stream items ∷ []) }
-    {
-        settle_in(self.accounts.as_mut_slice(), &stream, items.as_slice());
     }
 }

@@ -23,10 +23,10 @@ mod threads;
 mod tokens;
 
 pub use account::Account;
-pub use debt::Debt;
+pub use debt::{Debt, Said};
 pub use ledger::Ledger;
 pub use names::{client_in, jti_text, names_number, stream_name};
 pub use prepared::{Prepared, Spare};
 pub use publication::Publication;
 pub use step::Step;
-pub use tokens::{claims_for, owed_token};
+pub use tokens::{claims_for, news_of, owed_token};

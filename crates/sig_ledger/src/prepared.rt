@@ -1,16 +1,19 @@
-ghost use Rattle.std.specs.Prelude.{◌≡◌, []};
+ghost use Rattle.std.specs.Prelude.{◌≡◌, [], None};
 
+use indexmap::IndexSet;
 use sig_json::{Items, Text};
 use sig_terms::{Fact, Issued};
 use std::alloc::Global;
 use std::marker::Model;
 
-/// What is kept of a fact beside itself, made ready before it is taken in.
+/// What is kept of a fact beside itself, made ready before it is taken in. What a fact needs none of is empty.
 #[derive(Debug, Drop)]
 pub struct Spare {
     client: Text,
     id: Text,
     issued: Items<Issued>,
+    numbers: IndexSet<u64>,
+    reason: Option<Text>,
 }
 
 impl Model for Spare {
@@ -18,41 +21,87 @@ impl Model for Spare {
 
     ghost Value = { room.Spare };
 
-    ghost view = { λ s. record { client = s.client; id = s.id; issued = s.issued } };
+    ghost view = { λ s. record { client = s.client; id = s.id; issued = s.issued; numbers = s.numbers.keys; reason = s.reason } };
 }
 
 impl Spare {
-    /// For a stream that is made: its client's name, for its count.
-    pub fn for_client(alloc: Global, client: Text) -> Spare
-        ensures { result ≡ record { client = client; id = []; issued = [] } }
+    /// For a fact of which nothing is kept beside itself. It takes no memory.
+    pub fn none(alloc: Global) -> Spare
+        ensures { result ≡ record { client = []; id = []; issued = []; numbers = []; reason = None } }
     {
         Spare {
-            client,
+            client: Text::from_string(String::new(alloc)),
             id: Text::from_string(String::new(alloc)),
             issued: Items::of(Vec::new(alloc)),
+            numbers: IndexSet::new(alloc),
+            reason: None,
         }
+    }
+
+    /// For a stream that is made: its client's name, for its count.
+    pub fn for_client(alloc: Global, client: Text) -> Spare
+        ensures { result ≡ record { client = client; id = []; issued = []; numbers = []; reason = None } }
+    {
+        let mut spare = Spare::none(alloc);
+        spare.client = client;
+        spare
     }
 
     /// For a publication: its id, for the index, and the tokens that it makes.
     pub fn for_tokens(alloc: Global, id: Text, issued: Items<Issued>) -> Spare
-        ensures { result ≡ record { client = []; id = id; issued = issued } }
+        ensures { result ≡ record { client = []; id = id; issued = issued; numbers = []; reason = None } }
     {
-        Spare {
-            client: Text::from_string(String::new(alloc)),
-            id,
-            issued,
-        }
+        let mut spare = Spare::none(alloc);
+        spare.id = id;
+        spare.issued = issued;
+        spare
     }
 
-    /// For a fact of which nothing is kept beside itself.
-    pub fn none(alloc: Global) -> Spare
-        ensures { result ≡ record { client = []; id = []; issued = [] } }
+    /// For tokens that are settled: their numbers.
+    pub fn for_numbers(alloc: Global, numbers: IndexSet<u64>) -> Spare
+        ensures { result ≡ record { client = []; id = []; issued = []; numbers = numbers.keys; reason = None } }
     {
-        Spare {
-            client: Text::from_string(String::new(alloc)),
-            id: Text::from_string(String::new(alloc)),
-            issued: Items::of(Vec::new(alloc)),
-        }
+        let mut spare = Spare::none(alloc);
+        spare.numbers = numbers;
+        spare
+    }
+
+    /// For a status: its reason, for the token that tells it.
+    pub fn for_reason(alloc: Global, reason: Option<Text>) -> Spare
+        ensures { result ≡ record { client = []; id = []; issued = []; numbers = []; reason = reason } }
+    {
+        let mut spare = Spare::none(alloc);
+        spare.reason = reason;
+        spare
+    }
+
+    /// The client's name.
+    pub(crate) fn into_client(self) -> Text
+        ensures { result ≡ self.client }
+    {
+        self.client
+    }
+
+    /// The id of a publication, and the tokens that it makes.
+    pub(crate) fn into_tokens(self) -> (Text, Items<Issued>)
+        ensures id { result.0 ≡ self.id }
+        ensures issued { result.1 ≡ self.issued }
+    {
+        (self.id, self.issued)
+    }
+
+    /// The numbers of tokens that are settled.
+    pub(crate) fn into_numbers(self) -> IndexSet<u64>
+        ensures { result.keys ≡ self.numbers }
+    {
+        self.numbers
+    }
+
+    /// The reason of a status.
+    pub(crate) fn into_reason(self) -> Option<Text>
+        ensures { result ≡ self.reason }
+    {
+        self.reason
     }
 }
 
@@ -86,17 +135,10 @@ impl Prepared {
         &self.fact
     }
 
-    pub(crate) fn into_parts(self) -> (Fact, Text, Text, Items<Issued>)
+    pub(crate) fn into_parts(self) -> (Fact, Spare)
         ensures fact { result.0 ≡ self.fact }
-        ensures client { result.1 ≡ self.spare.client }
-        ensures id { result.2 ≡ self.spare.id }
-        ensures issued { result.3 ≡ self.spare.issued }
+        ensures spare { result.1 ≡ self.spare }
     {
-        (
-            self.fact,
-            self.spare.client,
-            self.spare.id,
-            self.spare.issued,
-        )
+        (self.fact, self.spare)
     }
 }
