@@ -1,8 +1,10 @@
 ghost use Rattle.std.specs.Prelude.{◌≡◌, IfOk};
 
+use crate::comparing::{same_member, same_variant};
+use crate::copying::{copy_member, copy_variant};
 use crate::{Issued, StreamConf, Token};
 use sig_event::Status;
-use sig_json::{Items, Memory, Text, copy_items};
+use sig_json::{Copied, Items, Memory, Same, Text, copy_items, copy_optional};
 use std::alloc::Global;
 
 /// What the transmitter answers to a call.
@@ -103,23 +105,46 @@ impl Answer {
     pub fn copy(&self, alloc: Global) -> Result<Answer, Memory>
         ensures { IfOk result (λ a. a ≡ self.now) }
     {
-        match self {
-            Answer::Made { conf } => Ok(Answer::Made {
-                conf: conf.copy(alloc)?,
-            }),
-            Answer::Sets { tokens, more } => Ok(Answer::Sets {
-                tokens: copy_items(alloc, tokens)?,
-                more: *more,
-            }),
-            Answer::Published { store_id, tokens } => Ok(Answer::Published {
-                store_id: *store_id,
-                tokens: copy_items(alloc, tokens)?,
-            }),
-            Answer::Settled { count } => Ok(Answer::Settled { count: *count }),
-            Answer::NotFound => Ok(Answer::NotFound),
-            Answer::TooMany => Ok(Answer::TooMany),
-            Answer::Conflict => Ok(Answer::Conflict),
-            Answer::Long { size } => Ok(Answer::Long { size: *size }),
-        }
+        copy_variant!(self, alloc, Answer {
+            Meta, Gone, Added, Removed, NotFound, TooMany, Conflict, Disabled;
+            Made { conf: copied },
+            Conf { conf: copied },
+            Confs { confs: copy_items },
+            State { stream: copied, status: plain, reason: copy_optional, token: plain },
+            Asked { stream: copied, number: plain },
+            Sets { tokens: copy_items, more: plain },
+            Published { store_id: plain, tokens: copy_items },
+            Delivering { stream: copied },
+            Handed { tokens: copy_items },
+            Settled { count: plain },
+            Early { until: plain },
+            Long { size: plain },
+        })
+    }
+}
+
+impl Copied for Answer {
+    fn copied(&self, alloc: Global) -> Result<Answer, Memory> {
+        self.copy(alloc)
+    }
+}
+
+impl Same for Answer {
+    fn same(&self, other: &Answer) -> bool {
+        same_variant!(self, other, Answer {
+            Meta, Gone, Added, Removed, NotFound, TooMany, Conflict, Disabled;
+            Made { conf ~ stream },
+            Conf { conf ~ stream },
+            Confs { confs ~ streams },
+            State { stream ~ name, status ~ state, reason ~ why, token ~ told },
+            Asked { stream ~ name, number ~ place },
+            Sets { tokens ~ sent, more == further },
+            Published { store_id == store, tokens ~ made },
+            Delivering { stream ~ name },
+            Handed { tokens ~ given },
+            Settled { count ~ many },
+            Early { until ~ later },
+            Long { size ~ bytes },
+        })
     }
 }

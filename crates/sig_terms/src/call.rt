@@ -1,8 +1,10 @@
 ghost use Rattle.std.specs.Prelude.{◌≡◌, IfOk};
 
 use crate::Want;
+use crate::comparing::{same_member, same_variant};
+use crate::copying::{copy_member, copy_variant};
 use sig_event::{News, Status};
-use sig_json::{Copied, Items, Memory, Text, copy_items};
+use sig_json::{Copied, Items, Memory, Same, Text, copy_items, copy_optional};
 use sig_subject::Subject;
 use std::alloc::Global;
 
@@ -185,34 +187,57 @@ impl Call {
     pub fn copy(&self, alloc: Global) -> Result<Call, Memory>
         ensures { IfOk result (λ c. c ≡ self.now) }
     {
-        match self {
-            Call::Create { client, want } => Ok(Call::Create {
-                client: client.copy(alloc)?,
-                want: want.copy(alloc)?,
-            }),
-            Call::Poll {
-                client,
-                stream,
-                ask,
-            } => Ok(Call::Poll {
-                client: client.copy(alloc)?,
-                stream: stream.copy(alloc)?,
-                ask: ask.copy(alloc)?,
-            }),
-            Call::Publish { id, news } => Ok(Call::Publish {
-                id: id.copy(alloc)?,
-                news: news.copy(alloc)?,
-            }),
-            Call::Settle {
-                stream,
-                number,
-                outcome,
-            } => Ok(Call::Settle {
-                stream: stream.copy(alloc)?,
-                number: *number,
-                outcome: outcome.copy(alloc)?,
-            }),
-        }
+        copy_variant!(self, alloc, Call {
+            Metadata;
+            Create { client: copied, want: copied },
+            ReadAll { client: copied },
+            Read { client: copied, stream: copied },
+            Patch { client: copied, stream: copied, want: copied },
+            Put { client: copied, stream: copied, want: copied },
+            Delete { client: copied, stream: copied },
+            GetStatus { client: copied, stream: copied },
+            SetStatus { client: copied, stream: copied, status: plain, reason: copy_optional },
+            Add { client: copied, stream: copied, subject: copied },
+            Remove { client: copied, stream: copied, subject: copied },
+            Verify { client: copied, stream: copied, state: copy_optional },
+            Poll { client: copied, stream: copied, ask: copied },
+            Publish { id: copied, news: copied },
+            OperatorStatus { stream: copied, status: plain, reason: copy_optional },
+            Deliver { stream: copied },
+            Hand { streams: copy_items },
+            Settle { stream: copied, number: plain, outcome: copied },
+        })
+    }
+}
+
+impl Copied for Call {
+    fn copied(&self, alloc: Global) -> Result<Call, Memory> {
+        self.copy(alloc)
+    }
+}
+
+impl Same for Call {
+    fn same(&self, other: &Call) -> bool {
+        same_variant!(self, other, Call {
+            Metadata;
+            Create { client ~ who, want ~ wish },
+            ReadAll { client ~ who },
+            Read { client ~ who, stream ~ name },
+            Patch { client ~ who, stream ~ name, want ~ wish },
+            Put { client ~ who, stream ~ name, want ~ wish },
+            Delete { client ~ who, stream ~ name },
+            GetStatus { client ~ who, stream ~ name },
+            SetStatus { client ~ who, stream ~ name, status ~ state, reason ~ why },
+            Add { client ~ who, stream ~ name, subject ~ whom },
+            Remove { client ~ who, stream ~ name, subject ~ whom },
+            Verify { client ~ who, stream ~ name, state ~ sent_back },
+            Poll { client ~ who, stream ~ name, ask ~ asked },
+            Publish { id ~ name, news ~ what },
+            OperatorStatus { stream ~ name, status ~ state, reason ~ why },
+            Deliver { stream ~ name },
+            Hand { streams ~ names },
+            Settle { stream ~ name, number ~ place, outcome ~ end },
+        })
     }
 }
 
@@ -226,6 +251,18 @@ impl PollAsk {
             acks: copy_items(alloc, &self.acks)?,
             errors: copy_items(alloc, &self.errors)?,
         })
+    }
+}
+
+impl Copied for PollAsk {
+    fn copied(&self, alloc: Global) -> Result<PollAsk, Memory> {
+        self.copy(alloc)
+    }
+}
+
+impl Same for PollAsk {
+    fn same(&self, other: &PollAsk) -> bool {
+        self.max.same(&other.max) && self.acks.same(&other.acks) && self.errors.same(&other.errors)
     }
 }
 
@@ -247,17 +284,35 @@ impl Copied for Reported {
     }
 }
 
+impl Same for Reported {
+    fn same(&self, other: &Reported) -> bool {
+        self.jti.same(&other.jti) && self.code.same(&other.code)
+    }
+}
+
 impl Outcome {
     /// An equal one.
     pub fn copy(&self, alloc: Global) -> Result<Outcome, Memory>
         ensures { IfOk result (λ o. o ≡ self.now) }
     {
-        match self {
-            Outcome::Accepted => Ok(Outcome::Accepted),
-            Outcome::Reported { code } => Ok(Outcome::Reported {
-                code: code.copy(alloc)?,
-            }),
-            Outcome::Keep => Ok(Outcome::Keep),
-        }
+        copy_variant!(self, alloc, Outcome {
+            Accepted, Keep;
+            Reported { code: copied },
+        })
+    }
+}
+
+impl Copied for Outcome {
+    fn copied(&self, alloc: Global) -> Result<Outcome, Memory> {
+        self.copy(alloc)
+    }
+}
+
+impl Same for Outcome {
+    fn same(&self, other: &Outcome) -> bool {
+        same_variant!(self, other, Outcome {
+            Accepted, Keep;
+            Reported { code ~ why },
+        })
     }
 }

@@ -1,6 +1,6 @@
 ghost use Rattle.std.specs.Prelude.{◌≡◌, IfOk};
 
-use crate::copying::copy_requested;
+use crate::copying::copy_optional_items;
 use crate::{Defaults, Delivery};
 use sig_json::{Copied, Items, Memory, Same, Text, copy_items, copy_optional};
 use std::alloc::Global;
@@ -36,8 +36,8 @@ impl StreamConf {
             stream: self.stream.copy(alloc)?,
             iss: self.iss.copy(alloc)?,
             aud: copy_items(alloc, &self.aud)?,
-            requested: copy_requested(alloc, &self.requested)?,
-            delivery: self.delivery,
+            requested: copy_optional_items(alloc, &self.requested)?,
+            delivery: self.delivery.copy(alloc)?,
             interval: self.interval,
             defaults: self.defaults,
             description: copy_optional(alloc, &self.description)?,

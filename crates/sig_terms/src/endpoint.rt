@@ -14,3 +14,31 @@ pub struct Endpoint {
     /// The path, which begins with `/`.
     pub path: Text,
 }
+
+impl Endpoint {
+    /// An equal endpoint.
+    pub fn copy(&self, alloc: Global) -> Result<Endpoint, Memory>
+        ensures { IfOk result (λ e. e ≡ self.now) }
+    {
+        Ok(Endpoint {
+            secure: self.secure,
+            place: self.place.copy(alloc)?,
+            path: self.path.copy(alloc)?,
+        })
+    }
+}
+
+impl Copied for Endpoint {
+    fn copied(&self, alloc: Global) -> Result<Endpoint, Memory> {
+        self.copy(alloc)
+    }
+}
+
+impl Same for Endpoint {
+    fn same(&self, other: &Endpoint) -> bool {
+        self.secure == other.secure
+            && self.place.host.same(&other.place.host)
+            && self.place.port == other.place.port
+            && self.path.same(&other.path)
+    }
+}

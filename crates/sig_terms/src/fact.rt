@@ -1,5 +1,7 @@
 ghost use Rattle.std.specs.Prelude.{◌≡◌, IfOk};
 
+use crate::comparing::{same_member, same_variant};
+use crate::copying::{copy_member, copy_optional_items, copy_variant};
 use crate::{Delivery, StreamConf};
 use sig_event::{News, Status};
 use sig_json::{Copied, Items, Memory, Same, Text, copy_items, copy_optional};
@@ -91,21 +93,18 @@ impl Fact {
     pub fn copy(&self, alloc: Global) -> Result<Fact, Memory>
         ensures { IfOk result (λ f. f ≡ self.now) }
     {
-        match self {
-            Fact::Created { conf, time } => Ok(Fact::Created {
-                conf: conf.copy(alloc)?,
-                time: *time,
-            }),
-            Fact::Published { id, news, time } => Ok(Fact::Published {
-                id: id.copy(alloc)?,
-                news: news.copy(alloc)?,
-                time: *time,
-            }),
-            Fact::Settled { stream, items } => Ok(Fact::Settled {
-                stream: stream.copy(alloc)?,
-                items: copy_items(alloc, items)?,
-            }),
-        }
+        copy_variant!(self, alloc, Fact {
+            ;
+            Created { conf: copied, time: plain },
+            Configured { stream: copied, requested: copy_optional_items, delivery: copied, description: copy_optional },
+            StatusSet { stream: copied, status: plain, reason: copy_optional, operator: plain, time: plain },
+            Listed { stream: copied, subject: copied },
+            Unlisted { stream: copied, subject: copied },
+            Deleted { stream: copied },
+            Published { id: copied, news: copied, time: plain },
+            Settled { stream: copied, items: copy_items },
+            Asked { stream: copied, state: copy_optional, time: plain },
+        })
     }
 }
 
@@ -117,31 +116,18 @@ impl Copied for Fact {
 
 impl Same for Fact {
     fn same(&self, other: &Fact) -> bool {
-        match (self, other) {
-            (
-                Fact::Created { conf, time },
-                Fact::Created {
-                    conf: other_conf,
-                    time: other_time,
-                },
-            ) => conf.same(other_conf) && time.same(other_time),
-            (
-                Fact::Published { id, news, time },
-                Fact::Published {
-                    id: other_id,
-                    news: other_news,
-                    time: other_time,
-                },
-            ) => id.same(other_id) && news.same(other_news) && time.same(other_time),
-            (
-                Fact::Settled { stream, items },
-                Fact::Settled {
-                    stream: other_stream,
-                    items: other_items,
-                },
-            ) => stream.same(other_stream) && items.same(other_items),
-            _ => false,
-        }
+        same_variant!(self, other, Fact {
+            ;
+            Created { conf ~ made, time ~ when },
+            Configured { stream ~ name, requested ~ asked, delivery ~ way, description ~ words },
+            StatusSet { stream ~ name, status ~ state, reason ~ why, operator == by_operator, time ~ when },
+            Listed { stream ~ name, subject ~ whom },
+            Unlisted { stream ~ name, subject ~ whom },
+            Deleted { stream ~ name },
+            Published { id ~ name, news ~ what, time ~ when },
+            Settled { stream ~ name, items ~ which },
+            Asked { stream ~ name, state ~ sent_back, time ~ when },
+        })
     }
 }
 

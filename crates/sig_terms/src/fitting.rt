@@ -23,9 +23,16 @@ pub fn delivers(conf: &StreamConf, uri: &str) -> bool
 pub fn fits(defaults: Defaults, listed: &Items<Subject>, subject: &Subject) -> bool
     ensures { result ≡ fitting.fits defaults listed.now subject.now }
 {
+    fits_listed(defaults, listed.as_slice(), subject)
+}
+
+/// The same, where the list is a slice.
+pub fn fits_listed(defaults: Defaults, listed: &[Subject], subject: &Subject) -> bool
+    ensures { result ≡ fitting.fits defaults listed.now subject.now }
+{
     match defaults {
-        Defaults::All => !lists_identical(listed.as_slice(), subject),
-        Defaults::None => lists_matching(listed.as_slice(), subject),
+        Defaults::All => !lists_identical(listed, subject),
+        Defaults::None => lists_matching(listed, subject),
     }
 }
 

@@ -11,6 +11,7 @@
 
 mod answer;
 mod call;
+mod comparing;
 mod configuration;
 mod copying;
 mod endpoint;
@@ -25,10 +26,11 @@ mod want;
 pub use answer::Answer;
 pub use call::{Call, Outcome, PollAsk, Reported};
 pub use configuration::StreamConf;
+pub use copying::copy_optional_items;
 pub use endpoint::Endpoint;
 pub use fact::{Fact, SettledItem};
 pub use fault::PrepareFault;
-pub use fitting::{delivers, fits, is_published_uri, is_requested};
+pub use fitting::{delivers, fits, fits_listed, is_published_uri, is_requested};
 pub use rules::{Client, Rules};
 pub use token::{Issued, Token};
 pub use want::{Defaults, Delivery, Want};

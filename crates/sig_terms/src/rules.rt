@@ -67,9 +67,19 @@ impl Rules {
             base: self.base.copy(alloc)?,
             defaults: self.defaults,
             interval: self.interval,
+            gateway: copy_gateway(alloc, &self.gateway)?,
             operator: self.operator.copy(alloc)?,
             clients: copy_items(alloc, &self.clients)?,
             key: self.key.copy(alloc)?,
         })
+    }
+}
+
+fn copy_gateway(alloc: Global, gateway: &Option<Place>) -> Result<Option<Place>, Memory>
+    ensures { IfOk result (λ g. g ≡ gateway.now) }
+{
+    match gateway {
+        None => Ok(None),
+        Some(place) => Ok(Some(place.copy(alloc)?)),
     }
 }

@@ -1,8 +1,8 @@
 //! The terms move between threads and may be shared by them, which the check of these calls shows.
 
 use crate::{
-    Answer, Call, Client, Defaults, Delivery, Fact, Issued, Outcome, PollAsk, PrepareFault,
-    Reported, Rules, SettledItem, StreamConf, Token, Want,
+    Answer, Call, Client, Defaults, Delivery, Endpoint, Fact, Issued, Outcome, PollAsk,
+    PrepareFault, Reported, Rules, SettledItem, StreamConf, Token, Want,
 };
 use sig_json::crosses_threads;
 
@@ -12,6 +12,7 @@ fn types_cross() {
     crosses_threads::<Client>();
     crosses_threads::<Defaults>();
     crosses_threads::<Delivery>();
+    crosses_threads::<Endpoint>();
     crosses_threads::<Fact>();
     crosses_threads::<Issued>();
     crosses_threads::<Outcome>();

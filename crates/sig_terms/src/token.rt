@@ -2,7 +2,7 @@ ghost use Rattle.std.specs.Prelude.{◌≡◌, IfOk};
 
 use crate::Endpoint;
 use sig_event::Claims;
-use sig_json::{Copied, Memory, Same, Text};
+use sig_json::{Copied, Memory, Same, Text, copy_optional};
 use std::alloc::Global;
 
 /// A token that a stream owes.
@@ -62,6 +62,8 @@ impl Token {
             stream: self.stream.copy(alloc)?,
             number: self.number,
             claims: self.claims.copy(alloc)?,
+            endpoint: copy_optional(alloc, &self.endpoint)?,
+            authorization: copy_optional(alloc, &self.authorization)?,
         })
     }
 }
@@ -77,5 +79,7 @@ impl Same for Token {
         self.stream.same(&other.stream)
             && self.number.same(&other.number)
             && self.claims.same(&other.claims)
+            && self.endpoint.same(&other.endpoint)
+            && self.authorization.same(&other.authorization)
     }
 }

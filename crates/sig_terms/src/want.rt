@@ -1,6 +1,9 @@
 ghost use Rattle.std.specs.Prelude.{◌≡◌, IfOk};
+ghost use Rattle.sig_terms.specs.Deliveries as deliveries;
 
-use crate::copying::copy_requested;
+use crate::Endpoint;
+use crate::comparing::{same_member, same_variant};
+use crate::copying::{copy_member, copy_optional_items, copy_variant};
 use sig_json::{Copied, Items, Memory, Same, Text, copy_optional};
 use std::alloc::Global;
 
@@ -39,6 +42,40 @@ pub enum Delivery {
     },
 }
 
+impl Delivery {
+    /// Whether tokens are sent to the receiver.
+    pub fn is_push(&self) -> bool
+        ensures { result ≡ deliveries.is_push self.now }
+    {
+        matches!(self, Delivery::Push { .. })
+    }
+
+    /// An equal delivery.
+    pub fn copy(&self, alloc: Global) -> Result<Delivery, Memory>
+        ensures { IfOk result (λ d. d ≡ self.now) }
+    {
+        copy_variant!(self, alloc, Delivery {
+            Poll;
+            Push { endpoint: copied, url: copied, authorization: copy_optional },
+        })
+    }
+}
+
+impl Copied for Delivery {
+    fn copied(&self, alloc: Global) -> Result<Delivery, Memory> {
+        self.copy(alloc)
+    }
+}
+
+impl Same for Delivery {
+    fn same(&self, other: &Delivery) -> bool {
+        same_variant!(self, other, Delivery {
+            Poll;
+            Push { endpoint ~ place, url ~ address, authorization ~ shown },
+        })
+    }
+}
+
 /// What a receiver wants of a stream (Shared Signals Framework 1.0, section 8.1.1).
 #[derive(Debug, PartialEq, Eq, Drop)]
 pub struct Want {
@@ -56,8 +93,8 @@ impl Want {
         ensures { IfOk result (λ w. w ≡ self.now) }
     {
         Ok(Want {
-            requested: copy_requested(alloc, &self.requested)?,
-            delivery: self.delivery,
+            requested: copy_optional_items(alloc, &self.requested)?,
+            delivery: copy_optional(alloc, &self.delivery)?,
             description: copy_optional(alloc, &self.description)?,
         })
     }
@@ -66,5 +103,13 @@ impl Want {
 impl Copied for Want {
     fn copied(&self, alloc: Global) -> Result<Want, Memory> {
         self.copy(alloc)
+    }
+}
+
+impl Same for Want {
+    fn same(&self, other: &Want) -> bool {
+        self.requested.same(&other.requested)
+            && self.delivery.same(&other.delivery)
+            && self.description.same(&other.description)
     }
 }
