@@ -1,5 +1,5 @@
 -- One fact more that fits and that proper rules make: streams and tokens stay as those rules have them.
-use Rattle.std.proofs.Common.{◌≡◌, ◌∙◌, ap, sym, subst, ℕ, ◌+◌, ◌<◌, ◌≤◌, List, [], ◌∷◌, ◌++◌, Bool, true, false, ◌&&◌, length, map, filter, flat_map, Option, Some, None, if◌then◌else◌, IsUtf8, refl, inl, inr, arith, length-append}
+use Rattle.std.proofs.Common.{◌≡◌, ◌∙◌, ap, sym, subst, ℕ, ◌+◌, ◌<◌, ◌≤◌, List, [], ◌∷◌, ◌++◌, Bool, true, false, ◌&&◌, length, map, filter, flat_map, Option, Some, None, not, if◌then◌else◌, IsUtf8, refl, inl, inr, arith, length-append}
 use Rattle.std.specs.Prelude.{All, Contains, codes, decimal, nat_le, nat_lt}
 use Rattle.std.specs.List.{list_any, list_all}
 use Rattle.std.specs.Str.{IsAscii}
@@ -18,22 +18,23 @@ use Rattle.sig_json.specs.Canon.{without_fraction}
 use Rattle.sig_json.proofs.Fractions.{without_shallow}
 use Rattle.sig_subject.specs.Written.{subject_data}
 use Rattle.sig_event.specs.Events as events
-use Rattle.sig_event.specs.News.{IsProperNews, told_data}
+use Rattle.sig_event.specs.News.{told_data}
 use Rattle.sig_event.specs.declared.news.News.{News}
 use Rattle.sig_set.specs.Written.{audience_data, payload_of}
 use Rattle.sig_set.proofs.ProperClaims.{ascii, proper_by_parts}
 use Rattle.sig_terms.specs.declared.configuration.StreamConf.{StreamConf}
 use Rattle.sig_terms.specs.declared.fact.Fact.{Fact}
-use Rattle.sig_terms.specs.declared.fact.Fact.TheVariants.{Created, Published, Settled}
-use Rattle.sig_history.specs.Streams.{Stream, Count, Parts, Made, claims_for, hyphen, is_before, is_due, jti_of, next_token, put_in_order, stands, stream_name}
-use Rattle.sig_history.specs.Facts.{brought_by, made_by, parts_after, parts_of, placed, stream_after, tells, time_of, token_by, token_for}
+use Rattle.sig_terms.specs.declared.fact.Fact.TheVariants.{Created, Configured, StatusSet, Listed, Unlisted, Deleted, Published, Settled, Asked}
+use Rattle.sig_history.specs.Streams.{Stream, Count, Parts, Made, claims_for, hyphen, is_before, is_due, is_named, jti_of, next_token, put_in_order, stands, stream_name}
+use Rattle.sig_history.specs.Facts.{brought_by, made_by, parts_after, parts_of, placed, removed_by, stream_after, tells, time_of, token_by, token_for, updated_news, verified_news, without}
 use Rattle.sig_history.specs.Owed.{Sum, empty_sum, is_of, owed_after, owed_by, sum_of, survives}
 use Rattle.sig_history.specs.Ours.{IsKept, IsMadeFor, IsOurFact, IsOurStream, IsOurToken}
 use Rattle.sig_history.specs.Sound.{Fits, is_client_name, is_name_character, is_past}
 use Rattle.sig_history.specs.Whole.{AreWhole, IsWholeStream}
 use Rattle.sig_history.proofs.JoinLemmas.{found, none_in}
 use Rattle.sig_history.proofs.StreamLemmas.{IsSameStream, after_same, same_text}
-use Rattle.sig_history.proofs.UriTexts.{ascii_more, ascii_none, published_utf8}
+use Rattle.sig_history.proofs.StreamNews.{IsFilledText, IsProperTold, proper_updated, proper_verified, published_told}
+use Rattle.sig_history.proofs.UriTexts.{ascii_more, ascii_none}
 use Rattle.sig_history.proofs.WholeLemmas.{BringsNext, few_past, fits_brings, whole_after}
 
 -- ---- texts
@@ -61,6 +62,17 @@ stream_utf8 client n ok low =
     IsUtf8-append client (hyphen ∷ decimal n) (client_utf8 client ok)
     (IsUtf8-append (hyphen ∷ []) (decimal n) (ascii (hyphen ∷ []) refl) (number_utf8 n low))
 
+stream_filled : (client : List ℕ) (n : ℕ) → stream_name client n ≡ [] → ⊥
+stream_filled [] n is = cc is
+stream_filled (b ∷ bs) n is = cc is
+
+-- the name of a stream that stands
+name_text : (issuer store_id : List ℕ) (created : List Count) (s : Stream) (o : List Made) → IsWholeStream store_id created s o → IsOurStream issuer s
+    → IsFilledText s.conf.stream
+name_text issuer store_id created s o whole ours =
+    subst IsFilledText (sym whole.name)
+    (record { utf8 = stream_utf8 s.client s.number ours.client whole.top; filled = stream_filled s.client s.number })
+
 jti_utf8 : (store_id stream : List ℕ) (n : ℕ) → IsUtf8 stream → n ≤ LAST_NUMBER → IsUtf8 (jti_of store_id stream n)
 jti_utf8 store_id stream n ok low =
     let dot : IsUtf8 (codes ".") = ascii (codes ".") refl in
@@ -85,7 +97,7 @@ audience_shallow [] = omega arith
 audience_shallow (text ∷ []) = omega arith
 audience_shallow (text ∷ other ∷ texts) = omega (arith, texts_flat texts)
 
-token_shallow : (store_id : List ℕ) (conf : StreamConf) (number time : ℕ) (n : News) → IsProperNews n
+token_shallow : (store_id : List ℕ) (conf : StreamConf) (number time : ℕ) (n : News) → IsProperTold n
     → depth (payload_of (claims_for store_id conf number time n)) ≤ max_depth
 token_shallow store_id conf number time n proper =
     let told : depth (told_data n) ≤ max_depth = proper.nests in
@@ -96,10 +108,10 @@ token_shallow store_id conf number time n proper =
 
 -- a stream's next token
 next_ours : (issuer store_id : List ℕ) (created : List Count) (n : News) (time : ℕ) (s : Stream) (o : List Made) → IsUtf8 issuer
-    → IsProperNews n → time ≤ LAST_NUMBER → IsWholeStream store_id created s o → IsOurStream issuer s → s.made + 1 ≤ LAST_NUMBER
+    → IsProperTold n → time ≤ LAST_NUMBER → IsWholeStream store_id created s o → IsOurStream issuer s → s.made + 1 ≤ LAST_NUMBER
     → IsOurToken issuer store_id (next_token store_id n time s)
 next_ours issuer store_id created n time s o text proper early whole ours low =
-    let name : IsUtf8 s.conf.stream = subst IsUtf8 (sym whole.name) (stream_utf8 s.client s.number ours.client whole.top) in
+    let name : IsUtf8 s.conf.stream = (name_text issuer store_id created s o whole ours).utf8 in
     record {
       iss = ours.iss;
       jti = refl;
@@ -111,7 +123,7 @@ next_ours issuer store_id created n time s o text proper early whole ours low =
         aud = ours.aud;
         subject = proper.subject;
         one = refl;
-        uri = published_utf8 n.event proper.type;
+        uri = proper.uri;
         event = proper.event;
         nests = token_shallow store_id s.conf (s.made + 1) time n proper;
       });
@@ -119,21 +131,34 @@ next_ours issuer store_id created n time s o text proper early whole ours low =
 
 -- what facts of these rules tell
 record IsTold (time : ℕ) (n : News) : Type 0 where
-  proper : IsProperNews n
+  proper : IsProperTold n
   early : time ≤ LAST_NUMBER
 
 abbrev AreTold : ℕ → Option News → Type 0
 AreTold time None = Unit {0}
 AreTold time (Some n) = IsTold time n
 
-tells_proper : (issuer : List ℕ) (f : Fact) (s : Stream) → IsOurFact issuer f → AreTold (time_of f) (tells f s)
-tells_proper issuer (Created conf time) s fact = tt
-tells_proper issuer (Published id n time) s fact =
-    elim (is_due n s) as (λ b. AreTold time (if b then Some n else None)) [
-      | true ↦ record { proper = fact.0; early = fact.1 }
-      | false ↦ tt
-    ]
-tells_proper issuer (Settled stream items) s fact = tt
+-- news that are told only where a test holds
+told_where : (time : ℕ) (n : News) (told : Bool) → (told ≡ true → IsTold time n) → AreTold time (if told then Some n else None)
+told_where time n true proper = proper refl
+told_where time n false proper = tt
+
+tells_proper : (issuer : List ℕ) (f : Fact) (s : Stream) → IsFilledText s.conf.stream → IsOurFact issuer f → AreTold (time_of f) (tells f s)
+tells_proper issuer (Created conf time) s text fact = tt
+tells_proper issuer (Configured stream requested delivery description) s text fact = tt
+tells_proper issuer (StatusSet stream status reason operator time) s text fact =
+    told_where time (updated_news stream status reason) (operator && is_named stream s) (λ told.
+    let name : s.conf.stream ≡ stream = same_text s.conf.stream stream (and_parts operator (is_named stream s) told).1 in
+    record { proper = proper_updated stream status reason (subst IsFilledText name text) fact.0; early = fact.1 })
+tells_proper issuer (Listed stream subject) s text fact = tt
+tells_proper issuer (Unlisted stream subject) s text fact = tt
+tells_proper issuer (Deleted stream) s text fact = tt
+tells_proper issuer (Published id n time) s text fact =
+    told_where time n (is_due n s) (λ told. record { proper = published_told n fact.0; early = fact.1 })
+tells_proper issuer (Settled stream items) s text fact = tt
+tells_proper issuer (Asked stream state time) s text fact =
+    told_where time (verified_news stream state) (is_named stream s) (λ told.
+    record { proper = proper_verified stream state (subst IsFilledText (same_text s.conf.stream stream told) text) fact.0; early = fact.1 })
 
 told_ours : (issuer store_id : List ℕ) (created : List Count) (time : ℕ) (s : Stream) (o : List Made) (told : Option News) → IsUtf8 issuer
     → AreTold time told → IsWholeStream store_id created s o → IsOurStream issuer s → list_any is_past (token_by store_id time s told) ≡ false
@@ -155,7 +180,8 @@ made_ours issuer store_id created f (s ∷ ss) (o ∷ os) text fact whole ours f
     let parts = or_parts (list_any is_past (token_for store_id f s)) (list_any is_past rest)
     (sym (list_any-append is_past (token_for store_id f s) rest) ∙ few) in
     All-append (IsOurToken issuer store_id) (token_for store_id f s) rest
-    (told_ours issuer store_id created (time_of f) s o (tells f s) text (tells_proper issuer f s fact) whole.0
+    (told_ours issuer store_id created (time_of f) s o (tells f s) text
+    (tells_proper issuer f s (name_text issuer store_id created s o whole.0 (All-head (IsOurStream issuer) s ss ours)) fact) whole.0
     (All-head (IsOurStream issuer) s ss ours) parts.0)
     (made_ours issuer store_id created f ss os text fact whole.3 (All-tail (IsOurStream issuer) s ss ours) parts.1)
 
@@ -183,15 +209,27 @@ placed_ours : (issuer : List ℕ) (p : Parts) (f : Fact) (ss : List Stream) → 
     → All (IsOurStream issuer) ss → All (IsOurStream issuer) (placed (brought_by p f) ss)
 placed_ours issuer p (Created conf time) ss next fact ours =
     put_ours issuer _ ss (record { client = next.proper; iss = fact.0; aud = fact.1 }) ours
+placed_ours issuer p (Configured stream requested delivery description) ss next fact ours = ours
+placed_ours issuer p (StatusSet stream status reason operator time) ss next fact ours = ours
+placed_ours issuer p (Listed stream subject) ss next fact ours = ours
+placed_ours issuer p (Unlisted stream subject) ss next fact ours = ours
+placed_ours issuer p (Deleted stream) ss next fact ours = ours
 placed_ours issuer p (Published id n time) ss next fact ours = ours
 placed_ours issuer p (Settled stream items) ss next fact ours = ours
+placed_ours issuer p (Asked stream state time) ss next fact ours = ours
+
+without_ours : (issuer : List ℕ) (o : Option (List ℕ)) (ss : List Stream) → All (IsOurStream issuer) ss → All (IsOurStream issuer) (without o ss)
+without_ours issuer None ss ours = ours
+without_ours issuer (Some name) ss ours = All-filter (λ s. not (is_named name s)) (IsOurStream issuer) ss ours
 
 streams_ours : (issuer : List ℕ) (sum : Sum) (f : Fact) → Fits sum f → IsOurFact issuer f → All (IsOurStream issuer) sum.parts.streams
     → All (IsOurStream issuer) (parts_after sum.parts f).streams
 streams_ours issuer sum f fits fact ours =
-    placed_ours issuer sum.parts f (map (stream_after f) sum.parts.streams) (fits_brings sum f fits) fact
+    let after : List Stream = map (stream_after f) sum.parts.streams in
+    placed_ours issuer sum.parts f (without (removed_by f) after) (fits_brings sum f fits) fact
+    (without_ours issuer (removed_by f) after
     (All-map (IsOurStream issuer) (stream_after f) sum.parts.streams
-    (All-weaker (IsOurStream issuer) (λ s. IsOurStream issuer (stream_after f s)) (after_ours issuer f) sum.parts.streams ours))
+    (All-weaker (IsOurStream issuer) (λ s. IsOurStream issuer (stream_after f s)) (after_ours issuer f) sum.parts.streams ours)))
 
 -- ---- what is owed was made
 

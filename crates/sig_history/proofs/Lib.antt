@@ -5,4 +5,5 @@ pub mod WholeLemmas
 pub mod SoundLemmas
 pub mod LeftLemmas
 pub mod UriTexts
+pub mod StreamNews
 pub mod KeptLemmas

@@ -3,18 +3,18 @@ use Rattle.std.proofs.Common.{◌≡◌, ◌∙◌, ap, sym, subst, ℕ, List, [
 use Rattle.std.proofs.lemmas.Bool.{and_from, and_parts}
 use Rattle.std.proofs.lemmas.Simd.{map-map}
 use Rattle.sig_terms.specs.declared.fact.Fact.{Fact}
-use Rattle.sig_terms.specs.declared.fact.Fact.TheVariants.{Created, Published, Settled}
+use Rattle.sig_terms.specs.declared.fact.Fact.TheVariants.{Created, Configured, StatusSet, Listed, Unlisted, Deleted, Published, Settled, Asked}
 use Rattle.sig_terms.specs.declared.fact.SettledItem.{SettledItem}
 use Rattle.sig_history.specs.Streams.{Stream, Count, Publication, Parts, Made, is_named, stands}
 use Rattle.sig_history.specs.Facts.{made_by}
 use Rattle.sig_history.specs.Owed.{Sum, empty_sum, owed_after, owed_by, owed_in, sum_of, survives}
 use Rattle.sig_history.specs.Sound.{Fits, are_owed, each_once, is_fitting, is_sound, may_be_made}
 use Rattle.sig_history.specs.Standings.{Standing, owed_in_standing, stream_in, sum_with}
-use Rattle.sig_history.specs.Whole.{AreSorted, AreWhole, IsRising, IsWhole}
+use Rattle.sig_history.specs.Whole.{AreWhole, IsRising, IsWhole}
 use Rattle.sig_history.specs.Laws.{OwedNumbersRise, SoundHistoriesAreWhole, SoundHistoriesJoin, StreamsAreSorted}
 use Rattle.sig_history.proofs.JoinLemmas.{found, joined}
 use Rattle.sig_history.proofs.StepLemmas.{Each, all_own, all_stand, each_and, filter_all, map_each, name_of}
-use Rattle.sig_history.proofs.WholeLemmas.{standings_of, whole_after, whole_distinct, whole_with}
+use Rattle.sig_history.proofs.WholeLemmas.{standings_of, whole_after, whole_distinct, whole_sorted, whole_with}
 
 -- ---- no fact more
 
@@ -35,10 +35,16 @@ settled_again base name items false absent = refl
 
 fitting_again : (base : Sum) (f : Fact) → is_fitting base f ≡ is_fitting (sum_of base []) f
 fitting_again base (Created conf time) = refl
+fitting_again base (Configured stream requested delivery description) = refl
+fitting_again base (StatusSet stream status reason operator time) = refl
+fitting_again base (Listed stream subject) = refl
+fitting_again base (Unlisted stream subject) = refl
+fitting_again base (Deleted stream) = refl
 fitting_again base (Published id news time) = refl
 fitting_again base (Settled stream items) =
     ap (λ b. may_be_made (made_by base.parts (Settled stream items)) && b)
     (settled_again base stream items (stands stream base.parts.streams) refl)
+fitting_again base (Asked stream state time) = refl
 
 sound_again : (base : Sum) (facts : List Fact) → is_sound base facts ≡ is_sound (sum_of base []) facts
 sound_again base [] = refl
@@ -101,11 +107,6 @@ sound_whole base (f ∷ facts) whole sound =
     (sound_whole (sum_of base (f ∷ [])) facts (whole_after base f whole both.0) both.1)
 
 -- ---- over a new store
-
-pub whole_sorted : (sid : List ℕ) (created : List Count) (ss : List Stream) (os : List (List Made)) → AreWhole sid created ss os → AreSorted ss
-whole_sorted sid created [] os whole = tt
-whole_sorted sid created (s ∷ ss) [] whole = absurd whole
-whole_sorted sid created (s ∷ ss) (o ∷ os) whole = (whole.2, whole_sorted sid created ss os whole.3)
 
 pub streams_sorted : StreamsAreSorted
 streams_sorted store_id facts sound =

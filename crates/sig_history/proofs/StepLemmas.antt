@@ -7,11 +7,14 @@ use Rattle.std.proofs.lemmas.List.Elements.{filter-append}
 use Rattle.sig_event.specs.declared.news.News.{News}
 use Rattle.sig_terms.specs.declared.fact.Fact.{Fact}
 use Rattle.sig_history.specs.Streams.{Stream, Count, Publication, Parts, Made, is_before, is_named, next_token, put_in_order, stands}
-use Rattle.sig_history.specs.Facts.{brought_by, counted, made_by, parts_after, placed, published_by, stream_after, tells, time_of, token_by, token_for}
+use Rattle.sig_history.specs.Facts.{brought_by, counted, made_by, parts_after, placed, published_by, removed_by, stream_after, tells, time_of, token_by, token_for, without}
 use Rattle.sig_history.specs.Owed.{Sum, is_of, owed_after, owed_in, owed_of, sum_of, survives, takes_off}
-use Rattle.sig_history.specs.Standings.{Standing, owed_in_standing, placed_standing, put_standing, standing_after, stream_in, sum_with}
-use Rattle.sig_history.proofs.JoinLemmas.{filter_same}
-use Rattle.sig_history.proofs.StreamLemmas.{after_same, other_text, stands_after, stands_placed, text_itself}
+use Rattle.sig_history.specs.Standings.{Standing, owed_in_standing, placed_standing, put_standing, standing_after, stream_in, sum_with, without_standing}
+use Rattle.sig_history.proofs.JoinLemmas.{filter_mapped, filter_same}
+use Rattle.sig_history.proofs.StreamLemmas.{after_same, is_taken, other_text, stands_after, stands_placed, stands_without, text_itself}
+
+abbrev pub name_of : Standing → List ℕ
+name_of s = s.stream.conf.stream
 
 -- ---- what holds of each
 
@@ -48,10 +51,19 @@ each_placed : (P : Standing → Type 0) (o : Option Stream) (ss : List Standing)
 each_placed P None ss new each = each
 each_placed P (Some s) ss new each = each_put P (record { stream = s; owed = [] }) ss new each
 
--- ---- each name once
+each_without : (P : Standing → Type 0) (o : Option (List ℕ)) (ss : List Standing) → Each (λ s. is_taken o (name_of s) ≡ false → P s) ss
+    → Each P (without_standing o ss)
+each_without P None [] each = tt
+each_without P None (s ∷ ss) each = (each.0 refl, each_without P None ss each.1)
+each_without P (Some name) [] each = tt
+each_without P (Some name) (s ∷ ss) each =
+    let rest : List Standing = without_standing (Some name) ss in
+    elim (is_named name s.stream) as (λ b. is_named name s.stream ≡ b → Each P (if not b then s ∷ rest else rest)) [
+      | true ↦ λ is. each_without P (Some name) ss each.1
+      | false ↦ λ stays. (each.0 stays, each_without P (Some name) ss each.1)
+    ] refl
 
-abbrev pub name_of : Standing → List ℕ
-name_of s = s.stream.conf.stream
+-- ---- each name once
 
 abbrev pub AreDistinct : List Stream → Type 0
 AreDistinct [] = ⊤
@@ -150,7 +162,7 @@ and_true true = refl
 and_true false = refl
 
 -- a stream that stands before and after a fact owes what it owed without what the fact takes off, and what the fact makes
-owed_step : (s : Sum) (f : Fact) (name : List ℕ) → stands name s.parts.streams ≡ true → stands name (parts_after s.parts f).streams ≡ true
+pub owed_step : (s : Sum) (f : Fact) (name : List ℕ) → stands name s.parts.streams ≡ true → stands name (parts_after s.parts f).streams ≡ true
     → owed_after s (f ∷ []) name
     ≡ filter (λ (t : Made). not (takes_off name f t)) (owed_in name s.parts.streams s.owed) ++ filter (is_of name) (made_by s.parts f)
 owed_step s f name before after =
@@ -187,6 +199,10 @@ pub placed_streams : (o : Option Stream) (ss : List Standing) → map stream_in 
 placed_streams None ss = refl
 placed_streams (Some s) ss = put_streams (record { stream = s; owed = [] }) ss
 
+pub without_streams : (o : Option (List ℕ)) (ss : List Standing) → map stream_in (without_standing o ss) ≡ without o (map stream_in ss)
+without_streams None ss = refl
+without_streams (Some name) ss = sym (filter_mapped (λ s. not (is_named name s)) stream_in ss)
+
 pub after_streams : (sid : List ℕ) (f : Fact) (ss : List Standing) → map stream_in (map (standing_after sid f) ss) ≡ map (stream_after f) (map stream_in ss)
 after_streams sid f [] = refl
 after_streams sid f (s ∷ ss) = ap (λ l. stream_after f s.stream ∷ l) (after_streams sid f ss)
@@ -197,8 +213,12 @@ after_streams sid f (s ∷ ss) = ap (λ l. stream_after f s.stream ∷ l) (after
 abbrev Owes : Sum → Fact → Standing → Type 0
 Owes base f s = s.owed ≡ owed_after base (f ∷ []) (name_of s)
 
+-- unless it is taken away
+abbrev OwesIfKept : Sum → Fact → Standing → Type 0
+OwesIfKept base f s = is_taken (removed_by f) (name_of s) ≡ false → Owes base f s
+
 old_owes : (sid : List ℕ) (ss : List Standing) (created : List Count) (published : List Publication) (f : Fact)
-    → AreDistinct (map stream_in ss) → Each (λ s. Owes (sum_with sid ss created published) f (standing_after sid f s)) ss
+    → AreDistinct (map stream_in ss) → Each (λ s. OwesIfKept (sum_with sid ss created published) f (standing_after sid f s)) ss
 old_owes sid ss created published f distinct =
     let base : Sum = sum_with sid ss created published in
     let streams : List Stream = map stream_in ss in
@@ -210,10 +230,13 @@ old_owes sid ss created published f distinct =
     (λ s a b. (a, b)) ss (all_own ss distinct) (each_own sid f ss distinct) in
     each_and (λ s. stands (name_of s) streams ≡ true)
     (λ s. (owed_in (name_of s) streams base.owed ≡ s.owed) × (filter (is_of (name_of s)) made ≡ token_for sid f s.stream))
-    (λ s. Owes base f (standing_after sid f s))
-    (λ s here both. sym (ap (owed_after base (f ∷ [])) (after_same f s.stream).name
+    (λ s. OwesIfKept base f (standing_after sid f s))
+    (λ s here both kept. sym (ap (owed_after base (f ∷ [])) (after_same f s.stream).name
     ∙ owed_step base f (name_of s) here
-    (stands_placed (name_of s) brought (map (stream_after f) streams) (stands_after (name_of s) f streams ∙ here))
+    (stands_placed (name_of s) brought (without (removed_by f) (map (stream_after f) streams))
+    (stands_without (name_of s) (removed_by f) (map (stream_after f) streams)
+    (ap (is_taken (removed_by f)) (sym (after_same f s.stream).name) ∙ kept)
+    ∙ stands_after (name_of s) f streams ∙ here))
     ∙ ap (λ l. filter (λ (t : Made). not (takes_off (name_of s) f t)) l ++ filter (is_of (name_of s)) made) both.0
     ∙ ap (λ l. filter (λ (t : Made). not (takes_off (name_of s) f t)) s.owed ++ l) both.1))
     ss (all_stand ss) owed_and_made
@@ -229,20 +252,25 @@ new_owes sid ss created published f (Some s) fresh =
 pub stepped_sum : (sid : List ℕ) (ss : List Standing) (created : List Count) (published : List Publication) (f : Fact)
     → AreDistinct (map stream_in ss) → IsFresh (map stream_in ss) (brought_by (sum_with sid ss created published).parts f)
     → sum_of (sum_with sid ss created published) (f ∷ [])
-    ≡ sum_with sid (placed_standing (brought_by (sum_with sid ss created published).parts f) (map (standing_after sid f) ss))
+    ≡ sum_with sid (placed_standing (brought_by (sum_with sid ss created published).parts f)
+    (without_standing (removed_by f) (map (standing_after sid f) ss)))
     (counted (brought_by (sum_with sid ss created published).parts f) created)
     (published ++ published_by (sum_with sid ss created published).parts f)
 stepped_sum sid ss created published f distinct fresh =
     let base : Sum = sum_with sid ss created published in
     let p : Parts = base.parts in
     let brought : Option Stream = brought_by p f in
-    let next : List Standing = placed_standing brought (map (standing_after sid f) ss) in
+    let after : List Standing = map (standing_after sid f) ss in
+    let kept : List Standing = without_standing (removed_by f) after in
+    let next : List Standing = placed_standing brought kept in
     let parts_with : List Stream → Parts = λ l. record { store_id = sid; streams = l; created = counted brought created; published = published ++ published_by p f } in
     let streams : map stream_in next ≡ (parts_after p f).streams =
-    placed_streams brought (map (standing_after sid f) ss) ∙ ap (placed brought) (after_streams sid f ss) in
+    placed_streams brought kept
+    ∙ ap (placed brought) (without_streams (removed_by f) after ∙ ap (without (removed_by f)) (after_streams sid f ss)) in
     let each : Each (Owes base f) next =
-    each_placed (Owes base f) brought (map (standing_after sid f) ss) (new_owes sid ss created published f brought fresh)
-    (each_map (Owes base f) (standing_after sid f) ss (old_owes sid ss created published f distinct)) in
+    each_placed (Owes base f) brought kept (new_owes sid ss created published f brought fresh)
+    (each_without (Owes base f) (removed_by f) after
+    (each_map (OwesIfKept base f) (standing_after sid f) ss (old_owes sid ss created published f distinct))) in
     ap (λ (l : List Stream). record { parts = parts_with l; owed = map (λ (t : Stream). owed_after base (f ∷ []) t.conf.stream) l }) (sym streams)
     ∙ ap (λ (l : List (List Made)). record { parts = parts_with (map stream_in next); owed = l })
     (map-map (λ (t : Stream). owed_after base (f ∷ []) t.conf.stream) stream_in next

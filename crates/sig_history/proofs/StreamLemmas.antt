@@ -1,13 +1,13 @@
 -- Streams: what every fact keeps of each, their places, and the counts of clients.
-use Rattle.std.proofs.Common.{◌≡◌, ◌∙◌, ap, sym, subst, ℕ, ◌+◌, ◌≤◌, List, [], ◌∷◌, map, Bool, true, false, ◌||◌, ◌&&◌, bytes_eq, Option, Some, None, if◌then◌else◌, refl, arith}
+use Rattle.std.proofs.Common.{◌≡◌, ◌∙◌, ap, sym, subst, ℕ, ◌+◌, ◌≤◌, List, [], ◌∷◌, map, filter, Bool, true, false, not, ◌||◌, ◌&&◌, bytes_eq, Option, Some, None, if◌then◌else◌, refl, arith}
 use Rattle.std.specs.Prelude.{nat_lt}
-use Rattle.std.proofs.lemmas.Bool.{both_ways, false_from_ne_true}
+use Rattle.std.proofs.lemmas.Bool.{both_ways, false_from_ne_true, or_from, or_parts}
 use Rattle.std.proofs.lemmas.Slice.Eq.{bytes_eq-Decides}
 use Rattle.sig_event.specs.declared.news.News.{News}
 use Rattle.sig_terms.specs.declared.fact.Fact.{Fact}
-use Rattle.sig_terms.specs.declared.fact.Fact.TheVariants.{Created, Published, Settled}
-use Rattle.sig_history.specs.Streams.{Stream, Count, comes_before, count_one, created_by, is_before, is_named, put_in_order, stands}
-use Rattle.sig_history.specs.Facts.{changed_by, placed, stream_after, tells, with_made}
+use Rattle.sig_terms.specs.declared.fact.Fact.TheVariants.{Created, Configured, StatusSet, Listed, Unlisted, Deleted, Published, Settled, Asked}
+use Rattle.sig_history.specs.Streams.{Stream, Count, comes_before, count_one, created_by, is_before, is_named, list_added, list_removed, put_in_order, stands, with_asked, with_conf, with_listed, with_status}
+use Rattle.sig_history.specs.Facts.{changed_by, configured, counted, of_named, placed, stream_after, tells, told_one, without}
 
 -- ---- texts
 
@@ -31,17 +31,49 @@ pub record IsSameStream (s t : Stream) : Type 0 where
   pub iss : t.conf.iss ≡ s.conf.iss
   pub aud : t.conf.aud ≡ s.conf.aud
 
+same_itself : (s : Stream) → IsSameStream s s
+same_itself s = record { client = refl; number = refl; name = refl; iss = refl; aud = refl }
+
+named_same : (name : List ℕ) (change : Stream → Stream) (s : Stream) → IsSameStream s (change s) → IsSameStream s (of_named name change s)
+named_same name change s same =
+    elim (is_named name s) as (λ b. IsSameStream s (if b then change s else s)) [ true ↦ same | false ↦ same_itself s ]
+
 changed_same : (f : Fact) (s : Stream) → IsSameStream s (changed_by f s)
-changed_same (Created conf time) s = record { client = refl; number = refl; name = refl; iss = refl; aud = refl }
-changed_same (Published id news time) s = record { client = refl; number = refl; name = refl; iss = refl; aud = refl }
-changed_same (Settled stream items) s = record { client = refl; number = refl; name = refl; iss = refl; aud = refl }
+changed_same (Created conf time) s = same_itself s
+changed_same (Configured stream requested delivery description) s =
+    named_same stream (λ (t : Stream). with_conf (configured requested delivery description t.conf) t) s
+    (record { client = refl; number = refl; name = refl; iss = refl; aud = refl })
+changed_same (StatusSet stream status reason operator time) s =
+    named_same stream (with_status status reason) s (record { client = refl; number = refl; name = refl; iss = refl; aud = refl })
+changed_same (Listed stream subject) s =
+    named_same stream (λ (t : Stream). with_listed (list_added subject t.listed) t) s
+    (record { client = refl; number = refl; name = refl; iss = refl; aud = refl })
+changed_same (Unlisted stream subject) s =
+    named_same stream (λ (t : Stream). with_listed (list_removed subject t.listed) t) s
+    (record { client = refl; number = refl; name = refl; iss = refl; aud = refl })
+changed_same (Deleted stream) s = same_itself s
+changed_same (Published id news time) s = same_itself s
+changed_same (Settled stream items) s = same_itself s
+changed_same (Asked stream state time) s =
+    named_same stream (with_asked time) s (record { client = refl; number = refl; name = refl; iss = refl; aud = refl })
+
+named_made : (name : List ℕ) (change : Stream → Stream) (s : Stream) → (change s).made ≡ s.made → (of_named name change s).made ≡ s.made
+named_made name change s same =
+    elim (is_named name s) as (λ b. (if b then change s else s).made ≡ s.made) [ true ↦ same | false ↦ refl ]
 
 pub changed_made : (f : Fact) (s : Stream) → (changed_by f s).made ≡ s.made
 changed_made (Created conf time) s = refl
+changed_made (Configured stream requested delivery description) s =
+    named_made stream (λ (t : Stream). with_conf (configured requested delivery description t.conf) t) s refl
+changed_made (StatusSet stream status reason operator time) s = named_made stream (with_status status reason) s refl
+changed_made (Listed stream subject) s = named_made stream (λ (t : Stream). with_listed (list_added subject t.listed) t) s refl
+changed_made (Unlisted stream subject) s = named_made stream (λ (t : Stream). with_listed (list_removed subject t.listed) t) s refl
+changed_made (Deleted stream) s = refl
 changed_made (Published id news time) s = refl
 changed_made (Settled stream items) s = refl
+changed_made (Asked stream state time) s = named_made stream (with_asked time) s refl
 
-told_same : (o : Option News) (s t : Stream) → IsSameStream s t → IsSameStream s (with_made o t)
+told_same : (o : Option News) (s t : Stream) → IsSameStream s t → IsSameStream s (told_one o t)
 told_same None s t same = same
 told_same (Some n) s t same =
     record { client = same.client; number = same.number; name = same.name; iss = same.iss; aud = same.aud }
@@ -92,6 +124,47 @@ stands_placed name None ss here = here
 stands_placed name (Some s) ss here =
     stands_put name s ss ∙ ap (λ b. is_named name s || b) here ∙ or_true (is_named name s)
 
+-- ---- a stream that is taken away
+
+-- whether the stream of this name is taken away
+abbrev pub is_taken : Option (List ℕ) → List ℕ → Bool
+is_taken None name = false
+is_taken (Some gone) name = bytes_eq name gone
+
+-- it stands no more
+pub gone_without : (name : List ℕ) (ss : List Stream) → stands name (without (Some name) ss) ≡ false
+gone_without name [] = refl
+gone_without name (s ∷ ss) =
+    let rest : List Stream = without (Some name) ss in
+    elim (is_named name s) as (λ b. is_named name s ≡ b → stands name (if not b then s ∷ rest else rest) ≡ false) [
+      | true ↦ λ is. gone_without name ss
+      | false ↦ λ other. or_from (is_named name s) (stands name rest) other (gone_without name ss)
+    ] refl
+
+-- any other stands as before
+pub stands_without : (name : List ℕ) (o : Option (List ℕ)) (ss : List Stream) → is_taken o name ≡ false → stands name (without o ss) ≡ stands name ss
+stands_without name None ss other = refl
+stands_without name (Some gone) [] other = refl
+stands_without name (Some gone) (s ∷ ss) other =
+    let rest : List Stream = without (Some gone) ss in
+    elim (is_named gone s) as (λ b. is_named gone s ≡ b → stands name (if not b then s ∷ rest else rest) ≡ (is_named name s || stands name ss)) [
+      | true ↦ λ is. stands_without name (Some gone) ss other
+          ∙ ap (λ b. b || stands name ss) (sym (ap (λ n. bytes_eq n name) (same_text s.conf.stream gone is) ∙ other_text name gone other))
+      | false ↦ λ stays. ap (λ b. is_named name s || b) (stands_without name (Some gone) ss other)
+    ] refl
+
+-- what didn't stand doesn't then
+pub absent_without : (name : List ℕ) (o : Option (List ℕ)) (ss : List Stream) → stands name ss ≡ false → stands name (without o ss) ≡ false
+absent_without name None ss absent = absent
+absent_without name (Some gone) [] absent = absent
+absent_without name (Some gone) (s ∷ ss) absent =
+    let rest : List Stream = without (Some gone) ss in
+    let parts = or_parts (is_named name s) (stands name ss) absent in
+    elim (is_named gone s) as (λ b. stands name (if not b then s ∷ rest else rest) ≡ false) [
+      | true ↦ absent_without name (Some gone) ss parts.1
+      | false ↦ or_from (is_named name s) (stands name rest) parts.0 (absent_without name (Some gone) ss parts.1)
+    ]
+
 -- ---- counts
 
 pub one_counted : (client : List ℕ) (counts : List Count) → created_by client (count_one client counts) ≡ created_by client counts + 1
@@ -121,3 +194,8 @@ counts_grow client other (c ∷ cs) =
             | false ↦ counts_grow client other cs
           ]
     ] refl
+
+-- what is brought lowers no client's count
+pub counted_grow : (o : Option Stream) (other : List ℕ) (counts : List Count) → created_by other counts ≤ created_by other (counted o counts)
+counted_grow None other counts = omega arith
+counted_grow (Some s) other counts = counts_grow s.client other counts

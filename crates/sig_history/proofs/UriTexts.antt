@@ -38,7 +38,7 @@ found_passes p q (y ∷ ys) x all is =
       | false ↦ λ later. found_passes p q ys x both.1 later
     ] is
 
-known_utf8 : (type : EventType) → IsUtf8 (uri_of_type type)
+pub known_utf8 : (type : EventType) → IsUtf8 (uri_of_type type)
 unfolding uri_of_type event_types published_types listed
 known_utf8 type =
     let low : List ℕ → Bool = list_all (λ b. nat_lt b 128) in

@@ -1,10 +1,10 @@
 -- What is whole stays whole: one fact more that fits.
-use Rattle.std.proofs.Common.{◌≡◌, ◌∙◌, ap, sym, subst, ℕ, ◌+◌, ◌<◌, ◌≤◌, List, [], ◌∷◌, ◌++◌, map, filter, flat_map, Bool, true, false, not, ◌&&◌, bytes_eq, decimal, Option, Some, None, if◌then◌else◌, refl, append-nil, arith, Less, Equal, Greater, nat_cmp}
+use Rattle.std.proofs.Common.{◌≡◌, ◌∙◌, ap, sym, subst, ℕ, ◌+◌, ◌<◌, ◌≤◌, List, [], ◌∷◌, ◌++◌, map, filter, flat_map, Bool, true, false, not, ◌&&◌, bytes_eq, decimal, Option, Some, None, if◌then◌else◌, refl, append-nil, arith, inl, inr, Ordering, Less, Equal, Greater, nat_cmp}
 use Rattle.std.specs.Prelude.{All, ⊤, nat_lt}
 use Rattle.std.specs.List.{list_any}
 use Rattle.std.specs.Cmp.Lexicographic.{slice_cmp}
 use Rattle.std.specs.Ordering.{is_eq, is_lt, ordering_reverse}
-use Rattle.std.proofs.lemmas.Bool.{and_parts, false_from_ne_true, lt-ltb, ltb-false, ltb-true, not-true, or_from, or_left, or_parts}
+use Rattle.std.proofs.lemmas.Bool.{and_from, and_parts, false_from_ne_true, lt-ltb, ltb-false, ltb-true, not-true, or_cases, or_from, or_left, or_parts, or_right}
 use Rattle.std.proofs.lemmas.Cmp.{nat_list_cmp_total}
 use Rattle.std.proofs.lemmas.Fmt.{decimal_injective}
 use Rattle.std.proofs.lemmas.List.{append_cancel_left}
@@ -14,15 +14,15 @@ use Rattle.std.proofs.lemmas.Map.Text.{is_eq-slice_cmp}
 use Rattle.sig_json.specs.declared.limits.TheConstants.{LAST_NUMBER}
 use Rattle.sig_event.specs.declared.news.News.{News}
 use Rattle.sig_terms.specs.declared.fact.Fact.{Fact}
-use Rattle.sig_terms.specs.declared.fact.Fact.TheVariants.{Created, Published, Settled}
+use Rattle.sig_terms.specs.declared.fact.Fact.TheVariants.{Created, Configured, StatusSet, Listed, Unlisted, Deleted, Published, Settled, Asked}
 use Rattle.sig_history.specs.Streams.{Stream, Count, Publication, Parts, Made, client_in, comes_before, count_one, created_by, hyphen, is_before, is_named, stands, stream_name}
-use Rattle.sig_history.specs.Facts.{brought_by, counted, made_by, stream_after, tells, time_of, token_by, token_for, with_made}
+use Rattle.sig_history.specs.Facts.{brought_by, counted, made_by, removed_by, stream_after, tells, time_of, token_by, token_for, told_one, without}
 use Rattle.sig_history.specs.Owed.{Sum, sum_of, takes_off}
 use Rattle.sig_history.specs.Sound.{Fits, is_apt, is_client_name, is_long, is_next, is_past, may_be_made}
-use Rattle.sig_history.specs.Standings.{Standing, owed_in_standing, placed_standing, put_standing, standing_after, stream_in, sum_with}
-use Rattle.sig_history.specs.Whole.{AreWhole, IsOwnToken, IsRising, IsWhole, IsWholeStream, StandsBefore}
-use Rattle.sig_history.proofs.StreamLemmas.{IsSameStream, after_same, changed_made, counts_grow, one_counted, order_after, other_text, same_text, stands_after, stands_put}
-use Rattle.sig_history.proofs.StepLemmas.{AreDistinct, IsFresh, after_streams, name_of, put_streams, stepped_sum}
+use Rattle.sig_history.specs.Standings.{Standing, owed_in_standing, placed_standing, put_standing, standing_after, stream_in, sum_with, without_standing}
+use Rattle.sig_history.specs.Whole.{AreSorted, AreWhole, IsOwnToken, IsRising, IsWhole, IsWholeStream, StandsBefore}
+use Rattle.sig_history.proofs.StreamLemmas.{IsSameStream, absent_without, after_same, changed_made, counts_grow, one_counted, order_after, other_text, same_text, stands_after, stands_put, text_itself}
+use Rattle.sig_history.proofs.StepLemmas.{AreDistinct, IsFresh, after_streams, name_of, put_streams, stepped_sum, without_streams}
 
 -- ---- streams with what they owe
 
@@ -86,7 +86,7 @@ rising_more below most (u ∷ us) t rising is = (rising.0, rising_more u.number 
 -- ---- one stream
 
 rising_told : (sid : List ℕ) (time : ℕ) (s t : Stream) (o : Option News) (ts : List Made) → t.made ≡ s.made → IsRising 0 ts s.made
-    → IsRising 0 (ts ++ token_by sid time s o) (with_made o t).made
+    → IsRising 0 (ts ++ token_by sid time s o) (told_one o t).made
 rising_told sid time s t None ts same rising =
     subst (λ (l : List Made). IsRising 0 l t.made) (sym (append-nil ts)) (subst (IsRising 0 ts) (sym same) rising)
 rising_told sid time s t (Some n) ts same rising =
@@ -98,7 +98,7 @@ own_told sid time s (Some n) =
     All-cons (IsOwnToken sid s.conf.stream) _ [] (record { stream = refl; jti = refl }) (All-nil (IsOwnToken sid s.conf.stream))
 
 made_low : (sid : List ℕ) (time : ℕ) (s t : Stream) (o : Option News) → t.made ≡ s.made → s.made ≤ LAST_NUMBER
-    → list_any is_past (token_by sid time s o) ≡ false → (with_made o t).made ≤ LAST_NUMBER
+    → list_any is_past (token_by sid time s o) ≡ false → (told_one o t).made ≤ LAST_NUMBER
 made_low sid time s t None same low few = omega arith
 made_low sid time s t (Some n) same low few =
     let parts = or_parts (nat_lt LAST_NUMBER (s.made + 1)) false few in
@@ -145,6 +145,76 @@ all_after sid created f (s ∷ ss) few whole =
       all_after sid created f ss parts.1 whole.3,
     )
 
+-- ---- a stream that is taken away
+
+pub whole_sorted : (sid : List ℕ) (created : List Count) (ss : List Stream) (os : List (List Made)) → AreWhole sid created ss os → AreSorted ss
+whole_sorted sid created [] os whole = tt
+whole_sorted sid created (s ∷ ss) [] whole = absurd whole
+whole_sorted sid created (s ∷ ss) (o ∷ os) whole = (whole.2, whole_sorted sid created ss os whole.3)
+
+less_comes : (o : Ordering) → is_lt o ≡ true → o ≡ Less
+less_comes Less h = refl
+less_comes Equal h = cc h
+less_comes Greater h = cc h
+
+comes_before_both : (a b c : List ℕ) → comes_before a b ≡ true → comes_before b c ≡ true → comes_before a c ≡ true
+comes_before_both a b c one two = ap is_lt (nat_list_cmp_total.trans a b c (less_comes _ one) (less_comes _ two))
+
+-- what stands before a stream stands before those after it
+before_both : (a b c : Stream) → is_before a b ≡ true → is_before b c ≡ true → is_before a c ≡ true
+before_both a b c one two =
+    let names : Bool = comes_before a.client c.client in
+    let numbers : Bool = bytes_eq a.client c.client && nat_lt a.number c.number in
+    elim (or_cases (comes_before a.client b.client) (bytes_eq a.client b.client && nat_lt a.number b.number) one) [
+      | inl first ↦ elim (or_cases (comes_before b.client c.client) (bytes_eq b.client c.client && nat_lt b.number c.number) two) [
+        | inl second ↦ or_left names numbers (comes_before_both a.client b.client c.client first second)
+        | inr second ↦ let same : bytes_eq b.client c.client ≡ true = (and_parts (bytes_eq b.client c.client) (nat_lt b.number c.number) second).0 in
+            or_left names numbers (subst (λ n. comes_before a.client n ≡ true) (same_text b.client c.client same) first)
+      ]
+      | inr first ↦ let equal = and_parts (bytes_eq a.client b.client) (nat_lt a.number b.number) first in
+          let client : a.client ≡ b.client = same_text a.client b.client equal.0 in
+          elim (or_cases (comes_before b.client c.client) (bytes_eq b.client c.client && nat_lt b.number c.number) two) [
+            | inl second ↦ or_left names numbers (subst (λ n. comes_before n c.client ≡ true) (sym client) second)
+            | inr second ↦ let other = and_parts (bytes_eq b.client c.client) (nat_lt b.number c.number) second in
+                let low : a.number < b.number = ltb-true a.number b.number equal.1 in
+                let high : b.number < c.number = ltb-true b.number c.number other.1 in
+                or_right names numbers (and_from (bytes_eq a.client c.client) (nat_lt a.number c.number)
+                (text_itself a.client c.client (client ∙ same_text b.client c.client other.0)) (lt-ltb a.number c.number (omega arith)))
+          ]
+    ]
+
+before_next : (s t : Stream) (ts : List Stream) → is_before s t ≡ true → StandsBefore t ts → StandsBefore s ts
+before_next s t [] before next = tt
+before_next s t (u ∷ us) before next = before_both s t u before next
+
+before_without : (s : Stream) (name : List ℕ) (ss : List Stream) → StandsBefore s ss → AreSorted ss → StandsBefore s (without (Some name) ss)
+before_without s name [] before sorted = tt
+before_without s name (t ∷ ts) before sorted =
+    let rest : List Stream = without (Some name) ts in
+    elim (is_named name t) as (λ b. StandsBefore s (if not b then t ∷ rest else rest)) [
+      | true ↦ before_without s name ts (before_next s t ts before sorted.0) sorted.1
+      | false ↦ before
+    ]
+
+without_whole : (sid : List ℕ) (created : List Count) (o : Option (List ℕ)) (ss : List Standing)
+    → AreWholeStandings sid created ss → AreWholeStandings sid created (without_standing o ss)
+without_whole sid created None ss whole = whole
+without_whole sid created (Some name) [] whole = whole
+without_whole sid created (Some name) (s ∷ ss) whole =
+    let rest : List Standing = without_standing (Some name) ss in
+    let streams : map stream_in rest ≡ without (Some name) (map stream_in ss) = without_streams (Some name) ss in
+    let kept : AreWholeStandings sid created rest = without_whole sid created (Some name) ss whole.3 in
+    let sorted : AreSorted (map stream_in ss) = whole_sorted sid created (map stream_in ss) (map owed_in_standing ss) whole.3 in
+    elim (is_named name s.stream) as (λ b. AreWholeStandings sid created (if not b then s ∷ rest else rest)) [
+      | true ↦ kept
+      | false ↦ (
+        whole.0,
+        ap (stands (name_of s)) streams ∙ absent_without (name_of s) (Some name) (map stream_in ss) whole.1,
+        subst (StandsBefore s.stream) (sym streams) (before_without s.stream name (map stream_in ss) whole.2 sorted),
+        kept,
+      )
+    ]
+
 -- ---- a stream that is brought
 
 -- it is its client's next one
@@ -176,8 +246,14 @@ fits_brings sum (Created conf time) fits =
       below = ltb-true count LAST_NUMBER low.1;
       made = refl;
     }
+fits_brings sum (Configured stream requested delivery description) fits = tt
+fits_brings sum (StatusSet stream status reason operator time) fits = tt
+fits_brings sum (Listed stream subject) fits = tt
+fits_brings sum (Unlisted stream subject) fits = tt
+fits_brings sum (Deleted stream) fits = tt
 fits_brings sum (Published id news time) fits = tt
 fits_brings sum (Settled stream items) fits = tt
+fits_brings sum (Asked stream state time) fits = tt
 
 -- its name is new
 other_name : (sid : List ℕ) (created : List Count) (n s : Stream) (o : List Made) → IsNextStream created n → IsWholeStream sid created s o
@@ -319,7 +395,8 @@ whole_step sid ss created published f whole fits =
     subst IsWhole
     (sym (stepped_sum sid ss created published f (whole_distinct sid created (map stream_in ss) (map owed_in_standing ss) whole)
     (whole_fresh sid created brought (map stream_in ss) (map owed_in_standing ss) next whole)))
-    (placed_whole sid created brought (map (standing_after sid f) ss) next (all_after sid created f ss (few_past base f fits) whole))
+    (placed_whole sid created brought (without_standing (removed_by f) (map (standing_after sid f) ss)) next
+    (without_whole sid created (removed_by f) (map (standing_after sid f) ss) (all_after sid created f ss (few_past base f fits) whole)))
 
 pub whole_after : (sum : Sum) (f : Fact) → IsWhole sum → Fits sum f → IsWhole (sum_of sum (f ∷ []))
 whole_after sum f whole fits =

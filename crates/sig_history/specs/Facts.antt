@@ -66,8 +66,14 @@ is_told (Asked stream state time) s = is_named stream s
 -- a configuration with what a receiver may set of it
 abbrev pub configured : Option (List (List ℕ)) → Delivery → Option (List ℕ) → StreamConf → StreamConf
 configured requested delivery description c = record {
-  stream = c.stream; iss = c.iss; aud = c.aud; requested = requested; delivery = delivery;
-  interval = c.interval; defaults = c.defaults; description = description;
+  stream = c.stream;
+  iss = c.iss;
+  aud = c.aud;
+  requested = requested;
+  delivery = delivery;
+  interval = c.interval;
+  defaults = c.defaults;
+  description = description;
 }
 
 -- a change of the stream of a name alone
@@ -90,8 +96,14 @@ changed_by (Asked stream state time) s = of_named stream (with_asked time) s
 -- a stream that was just made: it is enabled, has nobody on its list, and owes nothing
 abbrev pub new_stream : List ℕ → ℕ → StreamConf → Stream
 new_stream client number conf = record {
-  client = client; number = number; conf = conf; status = status.Enabled; reason = None;
-  listed = []; asked = None; made = 0;
+  client = client;
+  number = number;
+  conf = conf;
+  status = status.Enabled;
+  reason = None;
+  listed = [];
+  asked = None;
+  made = 0;
 }
 
 -- the stream that it brings, over the parts before it

@@ -111,32 +111,62 @@ streams_of client streams = length (filter (λ (s : Stream). bytes_eq s.client c
 -- a stream with another part
 abbrev pub with_conf : StreamConf → Stream → Stream
 with_conf conf s = record {
-  client = s.client; number = s.number; conf = conf; status = s.status; reason = s.reason;
-  listed = s.listed; asked = s.asked; made = s.made;
+  client = s.client;
+  number = s.number;
+  conf = conf;
+  status = s.status;
+  reason = s.reason;
+  listed = s.listed;
+  asked = s.asked;
+  made = s.made;
 }
 
 abbrev pub with_status : Status → Option (List ℕ) → Stream → Stream
 with_status status reason s = record {
-  client = s.client; number = s.number; conf = s.conf; status = status; reason = reason;
-  listed = s.listed; asked = s.asked; made = s.made;
+  client = s.client;
+  number = s.number;
+  conf = s.conf;
+  status = status;
+  reason = reason;
+  listed = s.listed;
+  asked = s.asked;
+  made = s.made;
 }
 
 abbrev pub with_listed : List Subject → Stream → Stream
 with_listed listed s = record {
-  client = s.client; number = s.number; conf = s.conf; status = s.status; reason = s.reason;
-  listed = listed; asked = s.asked; made = s.made;
+  client = s.client;
+  number = s.number;
+  conf = s.conf;
+  status = s.status;
+  reason = s.reason;
+  listed = listed;
+  asked = s.asked;
+  made = s.made;
 }
 
 abbrev pub with_asked : ℕ → Stream → Stream
 with_asked time s = record {
-  client = s.client; number = s.number; conf = s.conf; status = s.status; reason = s.reason;
-  listed = s.listed; asked = Some time; made = s.made;
+  client = s.client;
+  number = s.number;
+  conf = s.conf;
+  status = s.status;
+  reason = s.reason;
+  listed = s.listed;
+  asked = Some time;
+  made = s.made;
 }
 
 abbrev pub with_made : ℕ → Stream → Stream
 with_made made s = record {
-  client = s.client; number = s.number; conf = s.conf; status = s.status; reason = s.reason;
-  listed = s.listed; asked = s.asked; made = made;
+  client = s.client;
+  number = s.number;
+  conf = s.conf;
+  status = s.status;
+  reason = s.reason;
+  listed = s.listed;
+  asked = s.asked;
+  made = made;
 }
 
 -- a list of subjects with one more at its end, unless an identical one is there, and without the identical one
