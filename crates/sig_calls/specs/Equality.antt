@@ -1,6 +1,7 @@
 -- Whether two configurations have the same parts that a receiver may set.
-use Rattle.std.specs.Prelude.{ℕ, Bool, true, false, ◌&&◌, bytes_eq, nat_eq, pointwise}
+use Rattle.std.specs.Prelude.{ℕ, Bool, true, false, ◌&&◌, bytes_eq, nat_eq}
 use Rattle.std.specs.Bool.{beq}
+use Rattle.std.specs.Cmp.Lexicographic.{pointwise}
 use Rattle.std.specs.Option.{option_eq}
 use Rattle.sig_event.specs.declared.status.Status.{Status}
 use Rattle.sig_event.specs.declared.status.Status.TheVariants.{Enabled, Paused, Disabled}
