@@ -1,0 +1,8 @@
+//! Streams.
+#![tactic(auto)]
+
+mod endpoint;
+pub mod laws;
+
+pub use endpoint::endpoint_of;
+pub use sig_terms::Endpoint;
