@@ -7,3 +7,5 @@ pub mod LeftLemmas
 pub mod UriTexts
 pub mod StreamNews
 pub mod KeptLemmas
+pub mod NameLemmas
+pub mod StatusLemmas

@@ -117,11 +117,11 @@ none_beside name (s ∷ ss) absent =
 
 -- ---- a stream's tokens among all that a fact makes are its own
 
-own_token : (sid : List ℕ) (time : ℕ) (s : Stream) (o : Option News) → filter (is_of s.conf.stream) (token_by sid time s o) ≡ token_by sid time s o
+pub own_token : (sid : List ℕ) (time : ℕ) (s : Stream) (o : Option News) → filter (is_of s.conf.stream) (token_by sid time s o) ≡ token_by sid time s o
 own_token sid time s None = refl
 own_token sid time s (Some n) = ap (λ b. if b then next_token sid n time s ∷ [] else []) (text_itself s.conf.stream s.conf.stream refl)
 
-other_token : (name sid : List ℕ) (time : ℕ) (s : Stream) (o : Option News) → is_named name s ≡ false → filter (is_of name) (token_by sid time s o) ≡ []
+pub other_token : (name sid : List ℕ) (time : ℕ) (s : Stream) (o : Option News) → is_named name s ≡ false → filter (is_of name) (token_by sid time s o) ≡ []
 other_token name sid time s None other = refl
 other_token name sid time s (Some n) other = ap (λ b. if b then next_token sid n time s ∷ [] else []) other
 

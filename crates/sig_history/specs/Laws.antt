@@ -1,9 +1,14 @@
 -- What holds of histories, whatever they say.
-use Rattle.std.specs.Prelude.{◌≡◌, ℕ, List, ◌++◌, ◌&&◌, map, filter, true}
+use Rattle.std.specs.Prelude.{◌≡◌, ℕ, List, [], ◌∷◌, ◌++◌, Bool, ◌&&◌, Option, bytes_eq, map, filter, flat_map, true, false, if◌then◌else◌}
+use Rattle.std.specs.List.{IsDistinct}
+use Rattle.std.specs.Option.{option_map_or}
+use Rattle.sig_event.specs.declared.status.Status.{Status}
 use Rattle.sig_terms.specs.declared.fact.Fact.{Fact}
-use Rattle.sig_history.specs.Facts.{tokens_of}
-use Rattle.sig_history.specs.Owed.{Sum, sum_of, empty_sum, owed_by, made_along, token_in, is_left}
-use Rattle.sig_history.specs.Sound.{is_sound}
+use Rattle.sig_terms.specs.declared.fact.Fact.TheVariants.{Created, Configured, StatusSet, Listed, Unlisted, Deleted, Published, Settled, Asked}
+use Rattle.sig_history.specs.Streams.{Stream, Made, is_disabled, next_token, stands}
+use Rattle.sig_history.specs.Facts.{tokens_of, updated_news}
+use Rattle.sig_history.specs.Owed.{Sum, sum_of, empty_sum, owed_by, made_along, stream_named, token_in, is_left}
+use Rattle.sig_history.specs.Sound.{Fits, is_sound}
 use Rattle.sig_history.specs.Whole.{AreSorted, IsRising, IsWhole}
 
 -- a history may be taken up where an earlier part of it ended: the sum of both parts is that of the second over that of the
@@ -34,3 +39,55 @@ StreamsAreSorted = (store_id : List ℕ) (facts : List Fact) → is_sound (empty
 abbrev pub OwedNumbersRise : Type 0
 OwedNumbersRise = (store_id : List ℕ) (facts : List Fact) (name : List ℕ) → is_sound (empty_sum store_id) facts ≡ true
     → (most : ℕ) × IsRising 0 (owed_by (sum_of (empty_sum store_id) facts) name) most
+
+-- ---- names are used once
+
+-- the name of the stream that a fact makes, where it makes one
+abbrev pub name_made : Fact → List (List ℕ)
+name_made (Created conf time) = conf.stream ∷ []
+name_made (Configured stream requested delivery description) = []
+name_made (StatusSet stream status reason operator time) = []
+name_made (Listed stream subject) = []
+name_made (Unlisted stream subject) = []
+name_made (Deleted stream) = []
+name_made (Published id news time) = []
+name_made (Settled stream items) = []
+name_made (Asked stream state time) = []
+
+abbrev pub names_made : List Fact → List (List ℕ)
+names_made facts = flat_map name_made facts
+
+-- the names of all streams that a sound history makes differ, whatever it deletes between: the number of a stream that was
+-- deleted is never given again
+abbrev pub NamesAreUsedOnce : Type 0
+NamesAreUsedOnce = (base : Sum) (facts : List Fact) → is_sound base facts ≡ true → IsDistinct bytes_eq (names_made facts)
+
+-- ---- what a stream owes after its status is set, and after it is deleted
+
+-- the token that tells the stream of a name its new status, where the operator set it
+abbrev pub notice_for : Sum → List ℕ → Status → Option (List ℕ) → Bool → ℕ → List Made
+notice_for sum stream status reason operator time =
+    if operator then option_map_or (λ (s : Stream). next_token sum.parts.store_id (updated_news stream status reason) time s ∷ [])
+    (stream_named stream sum.parts.streams) []
+    else []
+
+-- a stream that is paused or enabled owes what it owed before, and then the notice
+abbrev pub PausingKeepsWhatIsOwed : Type 0
+PausingKeepsWhatIsOwed =
+    (sum : Sum) (stream : List ℕ) (status : Status) (reason : Option (List ℕ)) (operator : Bool) (time : ℕ)
+    → IsWhole sum → Fits sum (StatusSet stream status reason operator time) → is_disabled status ≡ false
+    → owed_by (sum_of sum (StatusSet stream status reason operator time ∷ [])) stream
+    ≡ owed_by sum stream ++ notice_for sum stream status reason operator time
+
+-- one that is disabled owes the notice alone
+abbrev pub DisablingLeavesItsOwnNotice : Type 0
+DisablingLeavesItsOwnNotice =
+    (sum : Sum) (stream : List ℕ) (status : Status) (reason : Option (List ℕ)) (operator : Bool) (time : ℕ)
+    → IsWhole sum → Fits sum (StatusSet stream status reason operator time) → is_disabled status ≡ true
+    → owed_by (sum_of sum (StatusSet stream status reason operator time ∷ [])) stream
+    ≡ notice_for sum stream status reason operator time
+
+-- the name of one that is deleted stands no more and owes nothing
+abbrev pub DeletingLeavesNothing : Type 0
+DeletingLeavesNothing = (sum : Sum) (stream : List ℕ) →
+    (stands stream (sum_of sum (Deleted stream ∷ [])).parts.streams ≡ false) × (owed_by (sum_of sum (Deleted stream ∷ [])) stream ≡ [])

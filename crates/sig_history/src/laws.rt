@@ -1,6 +1,6 @@
 //! Laws over the definitions: each function's contract is the law, and nothing calls it.
 
-ghost use Rattle.sig_history.specs.Laws.{HistoriesJoin, OwedNumbersRise, OwesWhatIsLeft, SoundHistoriesAreWhole, SoundHistoriesJoin, StreamsAreSorted};
+ghost use Rattle.sig_history.specs.Laws.{DeletingLeavesNothing, DisablingLeavesItsOwnNotice, HistoriesJoin, NamesAreUsedOnce, OwedNumbersRise, OwesWhatIsLeft, PausingKeepsWhatIsOwed, SoundHistoriesAreWhole, SoundHistoriesJoin, StreamsAreSorted};
 
 /// A history may be taken up where an earlier part of it ended: the sum of both parts is that of the second over that of
 /// the first, whatever the base. So a checkpoint loses nothing.
@@ -33,4 +33,27 @@ pub fn streams_stand_in_order()
 /// The numbers of the tokens that a stream owes rise, after every sound history over a new store.
 pub fn owed_numbers_rise()
     ensures { OwedNumbersRise }
+{}
+
+/// The names of all streams that a sound history makes differ from each other, whatever base it starts from and whatever it
+/// deletes between: the number of a stream that was deleted is never given again.
+pub fn names_are_used_once()
+    ensures { NamesAreUsedOnce }
+{}
+
+/// A stream whose status is set, and isn't disabled by it, owes what it owed before, and then the token that tells the new
+/// status, where the operator set it (Shared Signals Framework 1.0, sections 8.1.2 and 8.1.5).
+pub fn pausing_keeps_what_is_owed()
+    ensures { PausingKeepsWhatIsOwed }
+{}
+
+/// A stream that is disabled owes the token that tells so, where the operator disabled it, and no other (Shared Signals
+/// Framework 1.0, sections 8.1.2 and 8.1.5).
+pub fn disabling_leaves_its_own_notice()
+    ensures { DisablingLeavesItsOwnNotice }
+{}
+
+/// The name of a stream that was deleted stands no more and owes nothing (Shared Signals Framework 1.0, section 8.1.1).
+pub fn deleting_leaves_nothing()
+    ensures { DeletingLeavesNothing }
 {}
