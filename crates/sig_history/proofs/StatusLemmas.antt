@@ -6,7 +6,7 @@ use Rattle.std.proofs.lemmas.List.Elements.{filter-append}
 use Rattle.sig_event.specs.declared.status.Status.{Status}
 use Rattle.sig_terms.specs.declared.fact.Fact.{Fact}
 use Rattle.sig_terms.specs.declared.fact.Fact.TheVariants.{StatusSet, Deleted}
-use Rattle.sig_history.specs.Streams.{Stream, Made, is_disabled, is_named, next_token, stands}
+use Rattle.sig_history.specs.Streams.{Stream, Made, is_named, next_token, stands}
 use Rattle.sig_history.specs.Facts.{made_by, parts_after, stream_after, tells, time_of, token_by, token_for, updated_news}
 use Rattle.sig_history.specs.Owed.{Sum, is_of, owed_after, owed_by, stream_named, sum_of, takes_off}
 use Rattle.sig_history.specs.Sound.{Fits, is_apt, may_be_made}

@@ -1,15 +1,13 @@
 -- What a token may tell: news that are published, and of a stream itself a verification and a change of its status.
 use Rattle.std.proofs.Common.{◌≡◌, ◌≤◌, ℕ, List, [], ◌∷◌, map, Option, Some, None, IfSome, IsUtf8, refl, arith}
-use Rattle.std.specs.Prelude.{Contains, codes, option_map}
+use Rattle.std.specs.Prelude.{Contains, codes}
 use Rattle.std.proofs.lemmas.List.Elements.{All-contains_itself}
 use Rattle.serde_json.specs.Data.{Data, string, object, no_members, member, depth}
 use Rattle.serde_json.specs.Read.{max_depth}
-use Rattle.sig_json.specs.Members.{AllHave, Words}
 use Rattle.sig_json.specs.Order.{InOrder}
 use Rattle.sig_subject.specs.declared.subject.Subject.{Subject}
-use Rattle.sig_subject.specs.Reading.{subject_of}
 use Rattle.sig_subject.specs.Subjects.{SubjectIs}
-use Rattle.sig_subject.specs.Written.{IsProperSubject, subject_data}
+use Rattle.sig_subject.specs.Written.{IsProperSubject}
 use Rattle.sig_subject.proofs.ProperRead as subjects
 use Rattle.sig_subject.proofs.SubjectReading.{reads_subjects}
 use Rattle.sig_event.specs.Events as events
