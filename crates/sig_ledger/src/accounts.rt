@@ -81,9 +81,9 @@ pub(crate) fn put(accounts: &mut Vec<Account>, new: Account)
 pub(crate) fn place_named(accounts: &[Account], name: &str) -> usize
     ensures { result ≡ position_or_len (has_name name.now) accounts.now }
 {
-    for (place, account) in accounts.iter().enumerate() {
+    for (index, account) in accounts.iter().enumerate() {
         if account.is_named(name) {
-            return place;
+            return index;
         }
     }
     accounts.len()
