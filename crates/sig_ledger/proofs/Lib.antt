@@ -8,3 +8,4 @@ pub mod FoundLemmas
 pub mod IssuedLemmas
 pub mod ChangeLemmas
 pub mod TakenBooks
+pub mod ChangedBooks
