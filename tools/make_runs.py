@@ -2,12 +2,14 @@
 """Makes the cases of crates/sig_runs: whole runs of the program, and what each prints.
 
 `make_runs.py cases` prints crates/sig_runs/stdin, and `make_runs.py answers` prints crates/sig_runs/stdout. Each text here
-was worked out by hand from docs/FORMATS.md, and the tokens are signed by Python's own hmac. How often the input is asked
+was worked out by hand from docs/FORMATS.md, but for the scripts of `script_cases.py`, which a model of another hand answers,
+and the tokens are signed by Python's own hmac. How often the input is asked
 follows from the pieces alone: up to the piece with the end of the line that stops the run, or once more at the end of the
 input, and a second time after a last line that has no end. Nothing here comes from the program under test.
 """
 import sys
 
+import script_cases
 from sign_fold import TESTS
 
 TOKENS = dict(TESTS)
@@ -149,31 +151,85 @@ def stops(why, line, number=2, first=(CREATE,), text="1 made acme-1\n"):
     case(why, ["replay"], list(first) + [line, CREATE], 2, text + f"signals: line {number}\n", stop=number)
 
 
+# The lines that a script hasn't, group by group.
+NO_LINES = {
+    "no word of a script, or a word in another place": [
+        "destroy acme acme-1", "Create acme {}", " create acme {}", " ", " # a comment", "stop rx 3 5a deliver 1", "crash tx", "read acme acme-1",
+    ],
+    "no time": ["time", "time ", "time -1", "time +1", "time 01", "time 1 ", "time 1.0", "time 4611686018427387905"],
+    "no client of a script, or no want": [
+        "create", "create acme", "create acme ", "create other {}", "create ACME {}", "create  acme {}", "create acme {}x", "create acme {",
+        "create acme []", "create acme null", "patch other acme-1 {}", "patch acme acme-1", "patch acme {}", "patch acme  {}", "put acme acme-1 7",
+        'create acme {"description":7}', 'create acme {"description":null}', 'put acme acme-1 {"events_requested":"all"}',
+        'patch acme acme-1 {"events_requested":["x",7]}', 'create acme {"delivery":"poll"}', 'create acme {"delivery":{"method":"poll"}}',
+        'create acme {"delivery":{"method":7}}',
+    ],
+    "no endpoint of a push stream; there is no gateway for https": [
+        'create acme {"delivery":{"method":"urn:ietf:rfc:8935"%s}}' % more
+        for more in [
+            "", ',"endpoint_url":7', ',"endpoint_url":""', ',"endpoint_url":"https://rx.example/"', ',"endpoint_url":"ftp://rx.example/"',
+            ',"endpoint_url":"http:///path"', ',"endpoint_url":"http://rx.example:/"', ',"endpoint_url":"http://rx.example:0/"',
+            ',"endpoint_url":"http://rx.example:080/"', ',"endpoint_url":"http://rx.example:65536/"', ',"endpoint_url":"http://a@rx.example/"',
+            ',"endpoint_url":"http://rx_1.example/"', ',"endpoint_url":"http://rx.example?q"', ',"endpoint_url":"http://rx.example/a b"',
+            ',"endpoint_url":"http://rx.example/","authorization_header":7', ',"endpoint_url":"http://rx.example/","authorization_header":"a\\u0009b"',
+            ',"endpoint_url":"http://rx.example/","authorization_header":"\u00e9"',
+        ]
+    ],
+    "no stream, or a word too many": [
+        "delete", "delete acme", "delete acme ", "delete acme acme-1 ", "delete acme acme-1 x", "delete acme  acme-1", "delete other acme-1",
+        "verify acme", "verify acme acme-1 {}", "verify other acme-1", "hand", "hand ", "hand acme-1 ", "hand acme acme-1", "hand  acme-1",
+    ],
+    "no status": [
+        "status acme acme-1", "status acme acme-1 ", "status acme acme-1 Enabled", "status acme acme-1 enabled ", "status acme acme-1 enabled x",
+        "status acme  enabled", "status other acme-1 enabled", 'status acme acme-1 {"status":"enabled"}', "operator acme-1", "operator  enabled",
+        "operator acme-1 on", "operator acme acme-1 enabled",
+    ],
+    "no subject": [
+        start + rest
+        for start in ["check ", "add acme acme-1 "]
+        for rest in [
+            "", "{}", "[]", '"s-77"', '{"format":"opaque"}', '{"format":"opaque","id":""}', '{"format":"opaque","id":"s-77","x":1}',
+            '{"format":7,"id":"s-77"}', '{"format":"account","uri":"a@example.com"}', '{"format":"x-own","n":1.5}',
+            '{"format":"aliases","identifiers":[]}', '{"format":"complex","x":{"format":"opaque","id":"s-77"}}', '{"format":"opaque","id":"s-77"} x',
+        ]
+    ]
+    + ["check", "remove acme acme-1", "remove other acme-1 " + opaque("s-77"), "add acme " + opaque("s-77")],
+    "no number": [
+        "poll other acme-1 32", "poll acme acme-1", "poll acme acme-1 ", "poll acme  32", "poll acme acme-1 032", "poll acme acme-1 +32",
+        "poll acme acme-1 -1", "poll acme acme-1 4611686018427387905", "poll acme acme-1 32 ", "deliver", "deliver 0", "deliver 1", "deliver 01",
+        "answer 0", "answer 1", "answer x",
+    ],
+    "no publication": ["publish", "publish ", "publish {}", "publish []", "publish {"]
+    + [
+        publication(id, subject, events, name)
+        for events, name, id, subject in [
+            (BARE, "id", ONE, opaque("s-77")),
+            (BARE, "publish_id", "first", opaque("s-77")),
+            (BARE, "publish_id", ONE + "0", opaque("s-77")),
+            ("", "publish_id", ONE, opaque("s-77")),
+            (BARE + ',"https://example.com/x":{}', "publish_id", ONE, opaque("s-77")),
+            ('"https://example.com/x":{}', "publish_id", ONE, opaque("s-77")),
+            ('"https://schemas.openid.net/secevent/ssf/event-type/verification":{}', "publish_id", ONE, opaque("s-77")),
+            ('"https://schemas.openid.net/secevent/ssf/event-type/stream-updated":{"status":"paused"}', "publish_id", ONE, opaque("s-77")),
+            (BARE.replace("{}", "[]"), "publish_id", ONE, opaque("s-77")),
+            (BARE.replace("{}", '{"event_timestamp":1.5}'), "publish_id", ONE, opaque("s-77")),
+            (BARE.replace("{}", '{"initiating_entity":"nobody"}'), "publish_id", ONE, opaque("s-77")),
+            (BARE.replace("session-revoked", "credential-change"), "publish_id", ONE, opaque("s-77")),
+            (BARE.replace("caep/event-type/session-revoked", "risc/event-type/identifier-changed"), "publish_id", ONE, opaque("s-77")),
+            (BARE, "publish_id", ONE, opaque("")),
+            (BARE, "publish_id", ONE, '{"format":"opaque","id":"s-77","x":1}'),
+            (BARE, "publish_id", ONE, '"s-77"'),
+        ]
+    ],
+}
+
+
 def refusals():
-    for line in [
-        "destroy acme acme-1", "Create acme {}", "create", "create acme", "create acme {}x", "create acme { }", "create acme {} ",
-        "create  acme {}", "create acme  {}", " create acme {}", " ", " # a comment", "create other {}", "create ACME {}",
-        "poll other acme-1 32", "poll acme acme-1", "poll acme  32", "poll acme acme-1 032", "poll acme acme-1 +32",
-        "poll acme acme-1 4611686018427387905", "deliver", "deliver 0", "deliver 1", "answer 0", "answer 1", "publish {}", "publish ",
-    ]:
-        stops("A line that is refused ends the script.", line)
-    for events, name, id, subject in [
-        (BARE, "id", ONE, opaque("s-77")),
-        (BARE, "publish_id", "first", opaque("s-77")),
-        ("", "publish_id", ONE, opaque("s-77")),
-        (BARE.replace("revoked", "established"), "publish_id", ONE, opaque("s-77")),
-        (BARE.replace("{}", '{"reason_admin":"x"}'), "publish_id", ONE, opaque("s-77")),
-        ('"https://example.com/x":{},' + BARE, "publish_id", ONE, opaque("s-77")),
-        (BARE, "publish_id", ONE, '{"email":"a@example.com","format":"email"}'),
-        (BARE, "publish_id", ONE, opaque("")),
-        (BARE, "publish_id", ONE, '{"format":"opaque","id":"s-77","x":1}'),
-    ]:
-        stops("A publication that is unfit by one part ends the script.", publication(id, subject, events, name))
+    for what, lines in NO_LINES.items():
+        for line in lines:
+            stops(f"A line that is refused ends the script: {what}.", line)
     for length in [32, 33]:
         stops(f"A script's clients are acme and zeta: a name of {length} letters, where a client's name has at most 32, ends the script.", f"create {'a' * length} {{}}")
-    first = (CREATE, publication(ONE, opaque("s-77")))
-    for id in [ONE, "1" * 32]:
-        stops("A name that was used, in each of its spellings, ends the script.", publication(id, opaque("s-78")), 3, first, "1 made acme-1\n2 published 1\n2 token acme-1.1\n")
     case("Comments and empty lines are counted.", ["replay"], ["# a comment", "", CREATE, "#", "end"], 2, "3 made acme-1\nsignals: line 5\n", stop=5)
     case("The greatest number.", ["replay"], [CREATE, "poll acme acme-1 4611686018427387904"], 0, "1 made acme-1\n2 sets 0 more no\nrows 0 tokens 0\nowed acme-1 0\n")
     case("A line of 65,536 bytes, the most that there may be: a comment.", ["replay"], [(WHOLE, "#"), CREATE], 0, "2 made acme-1\nrows 0 tokens 0\nowed acme-1 0\n")
@@ -230,8 +286,37 @@ def messages():
          handed + "5 accepted a1\n6 settled 1\n7 settled 0\n8 seen a2\n9 settled 0\n10 sets 1 more no\n10 m3 acme-1.2\n" + GOOD_ROW + "owed acme-1 1\n")
 
 
+def statuses():
+    first = publication(ONE, opaque("s-77"))
+    case("A paused stream owes and offers nothing; once enabled it offers, and disabled it owes nothing.", ["replay"],
+         [CREATE, "status acme acme-1 paused", first, POLL, "status acme acme-1 enabled", POLL, "status acme acme-1 disabled"], 0,
+         "1 made acme-1\n2 state acme-1 paused\n3 published 1\n3 token acme-1.1\n4 sets 0 more no\n5 state acme-1 enabled\n6 sets 1 more no\n"
+         "6 m1 acme-1.1\n7 state acme-1 disabled\n" + NONE + "owed acme-1 0\n")
+    case("The operator's disabling drops what is owed but its own notice, and once more it changes nothing.", ["replay"],
+         [CREATE, first, publication(TWO, opaque("s-78")), "operator acme-1 disabled", POLL, "operator acme-1 disabled"], 0,
+         "1 made acme-1\n2 published 1\n2 token acme-1.1\n3 published 1\n3 token acme-1.2\n4 state acme-1 disabled token 3\n5 sets 1 more no\n"
+         "5 m1 acme-1.3\n6 state acme-1 disabled\n" + NONE + "owed acme-1 1\n")
+    case("A name that was used makes the same publication again, and no other one.", ["replay"],
+         [CREATE, first, first, publication(ONE, opaque("s-78"))], 0,
+         "1 made acme-1\n2 published 1\n2 token acme-1.1\n3 published 1\n3 token acme-1.1\n4 conflict\n" + NONE + "owed acme-1 1\n")
+    case("A verification may be asked for once in sixty seconds.", ["replay"],
+         ["time 100", CREATE, "verify acme acme-1", "time 159", "verify acme acme-1", "time 160", "verify acme acme-1", "poll acme acme-1 1"], 0,
+         "1 time 100\n2 made acme-1\n3 asked acme-1.1\n4 time 159\n5 early 160\n6 time 160\n7 asked acme-1.2\n8 sets 1 more yes\n8 m1 acme-1.1\n"
+         + NONE + "owed acme-1 2\n")
+    case("A token to a push stream is handed out.", ["replay"],
+         ['create acme {"delivery":{"method":"urn:ietf:rfc:8935","endpoint_url":"http://rx.example/"}}', first, "hand acme-1", POLL, "deliver 1", "answer 1", "hand acme-1"], 0,
+         "1 made acme-1\n2 published 1\n2 token acme-1.1\n3 handed 1\n3 m1 acme-1.1\n4 not-found\n5 accepted a1\n6 settled 1\n7 handed 0\n"
+         + GOOD_ROW + "owed acme-1 0\n")
+
+
+def scripts():
+    for group in script_cases.GROUPS:
+        why, lines, status, text = script_cases.script(group)
+        case(why, ["replay"], lines, status, text)
+
+
 def main():
-    for part in (usage, fold, refusals, streams, messages):
+    for part in (usage, fold, refusals, streams, messages, statuses, scripts):
         part()
     if sys.argv[1:] == ["cases"]:
         sys.stdout.write("\n".join(cases))

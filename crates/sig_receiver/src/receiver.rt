@@ -5,8 +5,9 @@ ghost use Rattle.sig_json.specs.Answers.{Answers};
 use crate::{Heard, Hearing, Ready, TakeFault};
 use sig_inbox::{Pair, Seen};
 use sig_json::{Memory, Text};
-use sig_sessions::{Row, Table};
+use sig_sessions::{Row, Table, Verdict};
 use sig_set::{Claims, Refusal, Trust, claims_of, judge};
+use sig_subject::Subject;
 use std::alloc::Global;
 use std::marker::Model;
 
@@ -31,6 +32,7 @@ impl Receiver {
     ghost use Rattle.sig_receiver.specs.Receiver.{IsHearing, IsReady, Received, StandsFor, StandsOver, committed, committed_if, heard_at, is_accepted, nothing, received, received_of, taken};
     ghost use Rattle.sig_receiver.specs.Journal.{answer_to, journal_by, pair_of};
     ghost use Rattle.sig_receiver.specs.Taking.{text_taken};
+    ghost use Rattle.sig_sessions.specs.Verdicts.{verdict_of};
 
     /// One that took nothing yet. It keeps the allocator.
     pub fn new(alloc: Global) -> Receiver
@@ -203,6 +205,13 @@ impl Receiver {
         ensures { result.now ≡ self.now.rows }
     {
         self.table.as_slice()
+    }
+
+    /// What the session table says of a subject. It takes no memory.
+    pub fn verdict(&self, subject: &Subject) -> Verdict
+        ensures { result ≡ verdict_of self.now.rows subject.now }
+    {
+        self.table.verdict(subject)
     }
 
     /// How many tokens it took.

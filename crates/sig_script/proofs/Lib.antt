@@ -1,2 +1,3 @@
-mod ScriptLemmas
-mod Publications
+mod NumberLemmas
+mod TextLemmas
+mod ProperLines

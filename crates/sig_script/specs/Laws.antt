@@ -1,8 +1,43 @@
 -- What holds of every line that is read.
-use Rattle.std.specs.Prelude.{◌≡◌, ℕ, List, [], Some, IsUtf8}
+use Rattle.std.specs.Prelude.{◌≡◌, ◌≤◌, ℕ, List, [], IfSome}
+use Rattle.sig_json.specs.declared.limits.TheConstants.{LAST_NUMBER}
+use Rattle.sig_terms.specs.declared.call.Call.{Call as Made}
+use Rattle.sig_terms.specs.declared.call.Call.TheVariants as call
+use Rattle.sig_calls.specs.Proper.{IsProperCall}
 use Rattle.sig_script.specs.Script.{script_line_of}
-use Rattle.sig_script.specs.declared.script.ScriptLine.TheVariants.{Publish}
+use Rattle.sig_script.specs.declared.script.ScriptLine.{ScriptLine}
+use Rattle.sig_script.specs.declared.script.ScriptLine.TheVariants.{Skipped, Time, Call, Deliver, Answer, Check}
 
--- the subject of a publication is named by a text that isn't empty
-abbrev pub PublicationsNameSubjects : Type 0
-PublicationsNameSubjects = (line id subject : List ℕ) → script_line_of line ≡ Some (Publish id subject) → IsUtf8 subject × (subject ≡ [] → ⊥)
+-- the call tells the transmitter no answer: it settles nothing, and a poll neither acknowledges nor reports
+abbrev pub TellsNothing : Made → Type 0
+TellsNothing call.Metadata = Unit {0}
+TellsNothing (call.Create client want) = Unit {0}
+TellsNothing (call.ReadAll client) = Unit {0}
+TellsNothing (call.Read client stream) = Unit {0}
+TellsNothing (call.Patch client stream want) = Unit {0}
+TellsNothing (call.Put client stream want) = Unit {0}
+TellsNothing (call.Delete client stream) = Unit {0}
+TellsNothing (call.GetStatus client stream) = Unit {0}
+TellsNothing (call.SetStatus client stream status reason) = Unit {0}
+TellsNothing (call.Add client stream subject) = Unit {0}
+TellsNothing (call.Remove client stream subject) = Unit {0}
+TellsNothing (call.Verify client stream state) = Unit {0}
+TellsNothing (call.Poll client stream ask) = (ask.acks ≡ []) × (ask.errors ≡ [])
+TellsNothing (call.Publish id news) = Unit {0}
+TellsNothing (call.OperatorStatus stream status reason) = Unit {0}
+TellsNothing (call.Deliver stream) = Unit {0}
+TellsNothing (call.Hand streams) = Unit {0}
+TellsNothing (call.Settle stream number outcome) = ⊥
+
+-- a line with a call that is proper and tells no answer, or with a time that there may be
+abbrev pub IsProperLine : ScriptLine → Type 0
+IsProperLine Skipped = Unit {0}
+IsProperLine (Time time) = time ≤ LAST_NUMBER
+IsProperLine (Call made) = IsProperCall made × TellsNothing made
+IsProperLine (Deliver message) = Unit {0}
+IsProperLine (Answer reply) = Unit {0}
+IsProperLine (Check subject) = Unit {0}
+
+-- each line that is read is one of these
+abbrev pub LinesAreProper : Type 0
+LinesAreProper = (bytes : List ℕ) → IfSome (script_line_of bytes) IsProperLine

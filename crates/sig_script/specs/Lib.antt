@@ -1,3 +1,6 @@
-pub mod FirstForm
+pub mod LineWords
+pub mod Cutting
+pub mod Numbers
+pub mod Bodies
 pub mod Script
 pub mod Laws

@@ -1,91 +1,91 @@
 -- The lines of a script: words with one space between them, and JSON to the end of the line.
-use Rattle.std.specs.Prelude.{ℕ, List, [], ◌∷◌, ◌==◌, Bool, true, false, not, ◌&&◌, ◌||◌, Option, Some, None, option_map, option_and_then, bytes_eq, codes, length, nat_lt, nat_le, if◌then◌else◌}
-use Rattle.std.specs.List.{list_all, position_or_len, before_first, after_first}
+use Rattle.std.specs.Prelude.{ℕ, List, [], ◌∷◌, ◌==◌, Bool, true, Option, Some, None, option_map, option_and_then, length, nat_le, if◌then◌else◌}
 use Rattle.std.specs.Str.{is_utf8}
-use Rattle.std.specs.Str.Parse.{digits_value}
-use Rattle.serde_json.specs.Data.{Data}
-use Rattle.uuid.specs.Text.{hyphenated_text, lower, parsed}
-use Rattle.sig_json.specs.Json.{json_of, text_member}
-use Rattle.sig_json.specs.declared.limits.TheConstants.{LAST_NUMBER, SCRIPT_LINE_BYTES}
-use Rattle.sig_script.specs.FirstForm.{has_first_form, id_in}
+use Rattle.sig_json.specs.Listed.{listed}
+use Rattle.sig_json.specs.declared.limits.TheConstants.{SCRIPT_LINE_BYTES}
+use Rattle.sig_terms.specs.declared.call.Call.TheVariants as call
+use Rattle.sig_script.specs.Bodies.{publication_in, status_of, subject_in, want_in}
+use Rattle.sig_script.specs.Cutting.{Cut, Names, client_cut, cut_at_space, is_word, names_cut, stream_cut}
+use Rattle.sig_script.specs.LineWords.{line_words, word_text}
+use Rattle.sig_script.specs.Numbers.{number_of}
+use Rattle.sig_script.specs.declared.line_word.LineWord.{LineWord}
+use Rattle.sig_script.specs.declared.line_word.LineWord.TheVariants as word
 use Rattle.sig_script.specs.declared.script.ScriptLine.{ScriptLine}
-use Rattle.sig_script.specs.declared.script.ScriptLine.TheVariants.{Skipped, Create, Publish, Poll, Deliver, Answer}
+use Rattle.sig_script.specs.declared.script.ScriptLine.TheVariants.{Skipped, Time, Call, Deliver, Answer, Check}
 
--- what stands before the first space, and what stands after it
-pub record Cut : Type 0 where
-  pub word : List ℕ
-  pub rest : List ℕ
+-- ---- calls by their names
 
-abbrev pub is_space : ℕ → Bool
-is_space b = b == 32
-
--- a text cut at its first space, where it has one
-abbrev pub cut_at_space : List ℕ → Option Cut
-cut_at_space text =
-    if nat_lt (position_or_len is_space text) (length text)
-    then Some (record { word = before_first is_space text; rest = after_first is_space text })
-    else None
-
-abbrev pub is_digit : ℕ → Bool
-is_digit b = nat_le 48 b && nat_le b 57
-
--- a decimal number without leading zeros
-abbrev pub is_decimal : List ℕ → Bool
-is_decimal [] = false
-is_decimal (b ∷ []) = is_digit b
-is_decimal (b ∷ c ∷ bs) = not (b == 48) && list_all is_digit (b ∷ c ∷ bs)
-
--- a number up to LAST_NUMBER
-abbrev pub within : ℕ → Option ℕ
-within n = if nat_le n LAST_NUMBER then Some n else None
-
--- the number that a word is
-abbrev pub number_of : List ℕ → Option ℕ
-number_of word = if is_decimal word then within (digits_value 10 word) else None
-
--- the clients that there are
-abbrev pub is_client : List ℕ → Bool
-is_client name = bytes_eq name (codes "acme") || bytes_eq name (codes "zeta")
-
--- whether a text has a byte
-abbrev pub is_filled_word : List ℕ → Bool
-is_filled_word word = nat_lt 0 (length word)
-
--- `create <client> {}`
+-- `create <client> <json>`
 abbrev pub create_line : Cut → Option ScriptLine
-create_line c = if is_client c.word && bytes_eq c.rest (codes "{}") then Some (Create c.word) else None
+create_line c = option_map (λ want. Call (call.Create c.word want)) (want_in c.rest)
 
--- `poll <client> <stream> <max>`
-abbrev pub stream_and_most : List ℕ → Cut → Option ScriptLine
-stream_and_most client c = if is_filled_word c.word then option_map (Poll client c.word) (number_of c.rest) else None
+-- `patch <client> <stream> <json>`
+abbrev pub patch_line : Names → Option ScriptLine
+patch_line n = option_map (λ want. Call (call.Patch n.client n.stream want)) (want_in n.rest)
 
-abbrev pub poll_line : Cut → Option ScriptLine
-poll_line c = if is_client c.word then option_and_then (stream_and_most c.word) (cut_at_space c.rest) else None
+-- `put <client> <stream> <json>`
+abbrev pub put_line : Names → Option ScriptLine
+put_line n = option_map (λ want. Call (call.Put n.client n.stream want)) (want_in n.rest)
 
--- the id of a publication: a text that spells a UUID (RFC 9562, section 4), kept with hyphens and in lower case
-abbrev pub publish_id_of : Data → Option (List ℕ)
-publish_id_of body = option_map (hyphenated_text lower) (option_and_then parsed (text_member (codes "publish_id") body))
+-- `delete <client> <stream>`
+abbrev pub delete_line : Cut → Option ScriptLine
+delete_line c = if is_word c.rest then Some (Call (call.Delete c.word c.rest)) else None
 
--- a publication of the first form; further members are passed over
-abbrev pub publication_line : Data → List ℕ → Option ScriptLine
-publication_line body id = if has_first_form body then Some (Publish id (id_in body)) else None
+-- `status <client> <stream> <status>`
+abbrev pub status_line : Names → Option ScriptLine
+status_line n = option_map (λ status. Call (call.SetStatus n.client n.stream status None)) (status_of n.rest)
 
--- `publish <json>`
-abbrev pub body_line : Data → Option ScriptLine
-body_line body = option_and_then (publication_line body) (publish_id_of body)
+-- `operator <stream> <status>`
+abbrev pub operator_line : Cut → Option ScriptLine
+operator_line c = option_map (λ status. Call (call.OperatorStatus c.word status None)) (status_of c.rest)
 
-abbrev pub publish_line : List ℕ → Option ScriptLine
-publish_line text = option_and_then body_line (json_of text)
+-- `add <client> <stream> <json>`
+abbrev pub add_line : Names → Option ScriptLine
+add_line n = option_map (λ subject. Call (call.Add n.client n.stream subject)) (subject_in n.rest)
+
+-- `remove <client> <stream> <json>`
+abbrev pub remove_line : Names → Option ScriptLine
+remove_line n = option_map (λ subject. Call (call.Remove n.client n.stream subject)) (subject_in n.rest)
+
+-- `verify <client> <stream>`
+abbrev pub verify_line : Cut → Option ScriptLine
+verify_line c = if is_word c.rest then Some (Call (call.Verify c.word c.rest None)) else None
+
+-- `poll <client> <stream> <max>`: it asks for tokens, and tells nothing
+abbrev pub poll_line : Names → Option ScriptLine
+poll_line n = option_map (λ most. Call (call.Poll n.client n.stream (record { max = Some most; acks = []; errors = [] }))) (number_of n.rest)
+
+-- `hand <stream>`
+abbrev pub hand_line : List ℕ → Option ScriptLine
+hand_line rest = if is_word rest then Some (Call (call.Hand (rest ∷ []))) else None
+
+-- ---- lines
+
+-- what stands after each word
+unfoldable pub line_by : LineWord → List ℕ → Option ScriptLine
+line_by word.Time rest = option_map Time (number_of rest)
+line_by word.Create rest = option_and_then create_line (client_cut rest)
+line_by word.Patch rest = option_and_then patch_line (names_cut rest)
+line_by word.Put rest = option_and_then put_line (names_cut rest)
+line_by word.Delete rest = option_and_then delete_line (client_cut rest)
+line_by word.Status rest = option_and_then status_line (names_cut rest)
+line_by word.Operator rest = option_and_then operator_line (stream_cut rest)
+line_by word.Add rest = option_and_then add_line (names_cut rest)
+line_by word.Remove rest = option_and_then remove_line (names_cut rest)
+line_by word.Verify rest = option_and_then verify_line (client_cut rest)
+line_by word.Publish rest = option_map Call (publication_in rest)
+line_by word.Poll rest = option_and_then poll_line (names_cut rest)
+line_by word.Hand rest = hand_line rest
+line_by word.Deliver rest = option_map Deliver (number_of rest)
+line_by word.Answer rest = option_map Answer (number_of rest)
+line_by word.Check rest = option_map Check (subject_in rest)
 
 -- a line by its first word
+abbrev pub worded : List ℕ → LineWord → Option ScriptLine
+worded rest w = line_by w rest
+
 abbrev pub named_line : Cut → Option ScriptLine
-named_line c =
-    if bytes_eq c.word (codes "create") then option_and_then create_line (cut_at_space c.rest)
-    else if bytes_eq c.word (codes "publish") then publish_line c.rest
-    else if bytes_eq c.word (codes "poll") then option_and_then poll_line (cut_at_space c.rest)
-    else if bytes_eq c.word (codes "deliver") then option_map Deliver (number_of c.rest)
-    else if bytes_eq c.word (codes "answer") then option_map Answer (number_of c.rest)
-    else None
+named_line c = option_and_then (worded c.rest) (listed word_text line_words c.word)
 
 -- an empty line, or one that begins with `#`
 abbrev pub is_comment : List ℕ → Bool

@@ -1,8 +1,10 @@
 //! Laws over definitions: each is the contract of a function that does nothing.
 
-ghost use Rattle.sig_script.specs.Laws.{PublicationsNameSubjects};
+ghost use Rattle.sig_script.specs.Laws.{LinesAreProper};
 
-/// A publication that is read of a line names its subject by a text in UTF-8 that isn't empty (RFC 9493, section 3.2.4).
-pub fn publications_name_subjects()
-    ensures { PublicationsNameSubjects }
-{}
+/// Each call of a line that is read is proper and tells the transmitter no answer, and each time is at most 2^62.
+pub fn lines_are_proper()
+    ensures { LinesAreProper }
+{
+    sig_stream::laws::publications_are_proper();
+}

@@ -1,15 +1,22 @@
 //! The lines of a script, which runs a transmitter and a receiver side by side: what each line asks for.
 //!
-//! It stands on `sig_json` for the JSON of a publication, and on `uuid` for its name. A line is words with one space between
-//! them; it creates a stream, publishes, polls, or hands a message or an answer on.
+//! It stands on `sig_terms` for the calls that lines make, on `sig_stream` for the bodies of wants and publications, and on
+//! `sig_subject` for those of subjects. A line is words with one space between them, and where it has JSON, that stands to
+//! its end; `specs/Script` has a row for each first word.
+//!
+//!     bytes -> text in UTF-8 -> first word -> names -> number, status or JSON -> line
 //!
 //! Promised: a line is read exactly where `specs/Script` has one for its bytes, and as that one; a line that is too long, is
-//! no text in UTF-8 or has none of the forms is none. A publication that is read names its subject by a text that isn't empty
-//! (`laws`). Left out: what the line makes of both ends, which the crates above say.
+//! no text in UTF-8 or has none of the forms is none. Each call of a line is proper and tells the transmitter no answer, and
+//! each time is at most 2^62 (`laws`). Left out: what the line makes of both ends, which the crates above say.
 #![tactic(auto)]
 
-mod first_form;
+mod bodies;
+mod calls;
+mod cutting;
 pub mod laws;
+mod line_word;
+mod numbers;
 mod script;
 
 pub use script::{ScriptLine, script_line};

@@ -1,54 +1,55 @@
 //! The lines of a script.
 
-ghost use Rattle.std.specs.Prelude.{◌≡◌, IfOk, codes, option_and_then, option_map};
-ghost use Rattle.std.specs.List.{list_all};
-ghost use Rattle.serde_json.specs.View.{view};
-ghost use Rattle.uuid.specs.Text.{hyphenated_text, lower, parsed};
-ghost use Rattle.sig_json.specs.Json.{text_member};
+ghost use Rattle.std.specs.Prelude.{◌≡◌, IfOk, option_map};
 ghost use Rattle.sig_script.specs.Script as spec;
+ghost use Rattle.sig_script.specs.Bodies.{publication_in, subject_in};
+ghost use Rattle.sig_script.specs.Numbers.{number_of};
 
-use crate::first_form::{has_first_form, id_in};
-use sig_json::limits::{LAST_NUMBER, SCRIPT_LINE_BYTES};
-use sig_json::{JsonFault, Memory, Text, Value, read, text_of};
+use crate::bodies::{publication_in, subject_in};
+use crate::calls::{
+    add_line, create_line, delete_line, hand_line, operator_line, patch_line, poll_line, put_line,
+    remove_line, status_line, verify_line,
+};
+use crate::cutting::at_first_space;
+use crate::line_word::LineWord;
+use crate::numbers::number_in;
+use sig_json::limits::SCRIPT_LINE_BYTES;
+use sig_json::{Memory, value_named};
+use sig_subject::Subject;
+use sig_terms::Call;
 use std::alloc::Global;
 use std::str;
-use uuid::Uuid;
 
 /// A line of a script.
 #[derive(Debug, PartialEq, Eq, Drop)]
 pub enum ScriptLine {
     /// An empty line or a comment: it is passed over.
     Skipped,
-    /// `create <client> {}`: the client makes a stream.
-    Create {
-        /// The client's name.
-        client: Text,
+    /// `time <n>`: it is another time.
+    Time {
+        /// In seconds since 1970, at most 2^62.
+        time: u64,
     },
-    /// `publish <json>`: the operator says that a subject's session is revoked.
-    Publish {
-        /// The publication's own name, a UUID with hyphens and in lower case.
-        id: Text,
-        /// The opaque identifier of the subject.
-        subject: Text,
-    },
-    /// `poll <client> <stream> <max>`: the client asks for tokens.
-    Poll {
-        /// The client's name.
-        client: Text,
-        /// The stream's name.
-        stream: Text,
-        /// How many tokens it takes at most.
-        max: u64,
-    },
-    /// `deliver <k>`: a message reaches the receiver, counted from 1.
+    /// A line that makes a call at the transmitter: `create`, `patch`, `put`, `delete`, `status`, `operator`, `add`,
+    /// `remove`, `verify`, `publish`, `poll` or `hand`.
+    Call(
+        /// The call.
+        Call,
+    ),
+    /// `deliver <k>`: a message reaches the receiver.
     Deliver {
-        /// Which.
+        /// Which, counted from 1.
         message: u64,
     },
-    /// `answer <j>`: an answer of the receiver reaches the transmitter, counted from 1.
+    /// `answer <j>`: an answer of the receiver reaches the transmitter.
     Answer {
-        /// Which.
+        /// Which, counted from 1.
         reply: u64,
+    },
+    /// `check <json>`: the receiver is asked about a subject.
+    Check {
+        /// Whom.
+        subject: Subject,
     },
 }
 
@@ -77,9 +78,9 @@ fn text_line(alloc: Global, text: &str) -> Result<Option<ScriptLine>, Memory>
     if is_comment(text.as_bytes()) {
         return Ok(Some(ScriptLine::Skipped));
     }
-    match cut(text) {
+    match at_first_space(text) {
         None => Ok(None),
-        Some((name, rest)) => named_line(alloc, name, rest),
+        Some(words) => named_line(alloc, words.word, words.rest),
     }
 }
 
@@ -92,214 +93,74 @@ fn is_comment(text: &[u8]) -> bool
     }
 }
 
-// What stands before the first space, and what stands after it.
-fn cut(text: &str) -> Option<(&str, &str)>
-    ensures { option_map (λ parts. record { word = parts.0.now; rest = parts.1.now }) result ≡ spec.cut_at_space text.now }
-{
-    text.split_once(' ')
-}
-
 fn named_line(alloc: Global, name: &str, rest: &str) -> Result<Option<ScriptLine>, Memory>
     ensures { IfOk result (λ found. found ≡ spec.named_line (record { word = name.now; rest = rest.now })) }
 {
-    if name == "create" {
-        create_line(alloc, rest)
-    } else if name == "publish" {
-        publish_line(alloc, rest)
-    } else if name == "poll" {
-        poll_line(alloc, rest)
-    } else if name == "deliver" {
-        Ok(deliver_line(rest))
-    } else if name == "answer" {
-        Ok(answer_line(rest))
-    } else {
-        Ok(None)
+    match value_named(name) {
+        None => Ok(None),
+        Some(word) => line_by(alloc, word, rest),
     }
+}
+
+#[tactic(auto, unfolding(crate::specs::Script::line_by))]
+fn line_by(alloc: Global, word: LineWord, rest: &str) -> Result<Option<ScriptLine>, Memory>
+    ensures { IfOk result (λ found. found ≡ spec.line_by word rest.now) }
+{
+    match word {
+        LineWord::Time => Ok(time_line(rest)),
+        LineWord::Create => create_line(alloc, rest),
+        LineWord::Patch => patch_line(alloc, rest),
+        LineWord::Put => put_line(alloc, rest),
+        LineWord::Delete => delete_line(alloc, rest),
+        LineWord::Status => status_line(alloc, rest),
+        LineWord::Operator => operator_line(alloc, rest),
+        LineWord::Add => add_line(alloc, rest),
+        LineWord::Remove => remove_line(alloc, rest),
+        LineWord::Verify => verify_line(alloc, rest),
+        LineWord::Publish => publish_line(alloc, rest),
+        LineWord::Poll => poll_line(alloc, rest),
+        LineWord::Hand => hand_line(alloc, rest),
+        LineWord::Deliver => Ok(deliver_line(rest)),
+        LineWord::Answer => Ok(answer_line(rest)),
+        LineWord::Check => check_line(alloc, rest),
+    }
+}
+
+fn time_line(rest: &str) -> Option<ScriptLine>
+    ensures { result ≡ option_map ScriptLine.Time (number_of rest.now) }
+{
+    let time = number_in(rest)?;
+    Some(ScriptLine::Time { time })
 }
 
 fn deliver_line(rest: &str) -> Option<ScriptLine>
-    ensures { result ≡ option_map ScriptLine.Deliver (spec.number_of rest.now) }
+    ensures { result ≡ option_map ScriptLine.Deliver (number_of rest.now) }
 {
-    match number_in(rest) {
-        None => None,
-        Some(message) => Some(ScriptLine::Deliver { message }),
-    }
+    let message = number_in(rest)?;
+    Some(ScriptLine::Deliver { message })
 }
 
 fn answer_line(rest: &str) -> Option<ScriptLine>
-    ensures { result ≡ option_map ScriptLine.Answer (spec.number_of rest.now) }
+    ensures { result ≡ option_map ScriptLine.Answer (number_of rest.now) }
 {
-    match number_in(rest) {
-        None => None,
-        Some(reply) => Some(ScriptLine::Answer { reply }),
-    }
-}
-
-fn create_line(alloc: Global, rest: &str) -> Result<Option<ScriptLine>, Memory>
-    ensures { IfOk result (λ found. found ≡ option_and_then spec.create_line (spec.cut_at_space rest.now)) }
-{
-    match cut(rest) {
-        None => Ok(None),
-        Some((client, body)) => create_of(alloc, client, body),
-    }
-}
-
-fn create_of(alloc: Global, client: &str, body: &str) -> Result<Option<ScriptLine>, Memory>
-    ensures { IfOk result (λ found. found ≡ spec.create_line (record { word = client.now; rest = body.now })) }
-{
-    if !is_client(client) || body != "{}" {
-        return Ok(None);
-    }
-    let client = Text::of(alloc, client)?;
-    Ok(Some(ScriptLine::Create { client }))
-}
-
-fn poll_line(alloc: Global, rest: &str) -> Result<Option<ScriptLine>, Memory>
-    ensures { IfOk result (λ found. found ≡ option_and_then spec.poll_line (spec.cut_at_space rest.now)) }
-{
-    match cut(rest) {
-        None => Ok(None),
-        Some((client, rest)) => client_poll(alloc, client, rest),
-    }
-}
-
-fn client_poll(alloc: Global, client: &str, rest: &str) -> Result<Option<ScriptLine>, Memory>
-    ensures { IfOk result (λ found. found ≡ spec.poll_line (record { word = client.now; rest = rest.now })) }
-{
-    if !is_client(client) {
-        return Ok(None);
-    }
-    match cut(rest) {
-        None => Ok(None),
-        Some((stream, most)) => poll_of(alloc, client, stream, most),
-    }
-}
-
-fn poll_of(
-    alloc: Global,
-    client: &str,
-    stream: &str,
-    most: &str,
-) -> Result<Option<ScriptLine>, Memory>
-    ensures { IfOk result (λ found. found ≡ spec.stream_and_most client.now (record { word = stream.now; rest = most.now })) }
-{
-    if stream.is_empty() {
-        return Ok(None);
-    }
-    match number_in(most) {
-        None => Ok(None),
-        Some(max) => Ok(Some(ScriptLine::Poll {
-            client: Text::of(alloc, client)?,
-            stream: Text::of(alloc, stream)?,
-            max,
-        })),
-    }
-}
-
-fn is_client(name: &str) -> bool
-    ensures { result ≡ spec.is_client name.now }
-{
-    name == "acme" || name == "zeta"
+    let reply = number_in(rest)?;
+    Some(ScriptLine::Answer { reply })
 }
 
 fn publish_line(alloc: Global, rest: &str) -> Result<Option<ScriptLine>, Memory>
-    ensures { IfOk result (λ found. found ≡ spec.publish_line rest.now) }
+    ensures { IfOk result (λ found. found ≡ option_map ScriptLine.Call (publication_in rest.now)) }
 {
-    match read(alloc, rest.as_bytes()) {
-        Ok(body) => body_line(alloc, &body),
-        Err(JsonFault::NotJson) => Ok(None),
-        Err(JsonFault::Memory) => Err(Memory),
-    }
-}
-
-fn body_line(alloc: Global, body: &Value) -> Result<Option<ScriptLine>, Memory>
-    ensures { IfOk result (λ found. found ≡ spec.body_line (view body.now)) }
-{
-    match publish_id(body) {
+    match publication_in(alloc, rest)? {
         None => Ok(None),
-        Some(id) => publication_line(alloc, body, id),
+        Some(call) => Ok(Some(ScriptLine::Call(call))),
     }
 }
 
-fn publication_line(alloc: Global, body: &Value, id: Uuid) -> Result<Option<ScriptLine>, Memory>
-    ensures { IfOk result (λ found. found ≡ spec.publication_line (view body.now) (hyphenated_text lower id)) }
+fn check_line(alloc: Global, rest: &str) -> Result<Option<ScriptLine>, Memory>
+    ensures { IfOk result (λ found. found ≡ option_map ScriptLine.Check (subject_in rest.now)) }
 {
-    if !has_first_form(body) {
-        return Ok(None);
+    match subject_in(alloc, rest)? {
+        None => Ok(None),
+        Some(subject) => Ok(Some(ScriptLine::Check { subject })),
     }
-    Ok(Some(ScriptLine::Publish {
-        id: id_text(alloc, id)?,
-        subject: id_in(alloc, body)?,
-    }))
-}
-
-fn publish_id(body: &Value) -> Option<Uuid>
-    ensures { result ≡ option_and_then parsed (text_member (codes "publish_id") (view body.now)) }
-{
-    match text_of(body, "publish_id") {
-        None => None,
-        Some(text) => uuid_in(text),
-    }
-}
-
-fn uuid_in(text: &str) -> Option<Uuid>
-    ensures { result ≡ parsed text.now }
-{
-    match Uuid::parse_str(text) {
-        Ok(id) => Some(id),
-        Err(_) => None,
-    }
-}
-
-fn id_text(alloc: Global, id: Uuid) -> Result<Text, Memory>
-    ensures { IfOk result (λ text. text ≡ hyphenated_text lower id) }
-{
-    let mut buffer = Uuid::encode_buffer();
-    Text::of(alloc, id.hyphenated().encode_lower(&mut buffer))
-}
-
-// The number that a word is: decimal, without leading zeros, up to 2^62.
-fn number_in(word: &str) -> Option<u64>
-    ensures { result ≡ spec.number_of word.now }
-{
-    if !is_decimal(word.as_bytes()) {
-        return None;
-    }
-    up_to_last(word.parse::<u64>().ok())
-}
-
-fn up_to_last(number: Option<u64>) -> Option<u64>
-    ensures { result ≡ option_and_then spec.within number }
-{
-    match number {
-        Some(number) if number <= LAST_NUMBER => Some(number),
-        _ => None,
-    }
-}
-
-fn is_decimal(word: &[u8]) -> bool
-    ensures { result ≡ spec.is_decimal word.now }
-{
-    match word {
-        [] => false,
-        [first] => is_digit(*first),
-        [first, ..] => *first != b'0' && are_digits(word),
-    }
-}
-
-fn is_digit(byte: u8) -> bool
-    ensures { result ≡ spec.is_digit byte }
-{
-    byte.is_ascii_digit()
-}
-
-fn are_digits(bytes: &[u8]) -> bool
-    ensures { result ≡ list_all spec.is_digit bytes.now }
-{
-    for byte in bytes {
-        if !is_digit(*byte) {
-            return false;
-        }
-    }
-    true
 }

@@ -1,10 +1,9 @@
 -- What one line more makes of a script.
 use Rattle.std.proofs.Common.{◌≡◌, ◌∙◌, ap, sym, ℕ, ◌+◌, List, [], ◌∷◌, ◌++◌, length, Option, Some, None, refl, arith, append_assoc, append-nil}
-use Rattle.std.specs.Prelude.{Bool, true, false, is_none, is_some, if◌then◌else◌}
+use Rattle.std.specs.Prelude.{Bool, true, false, is_none, if◌then◌else◌}
 use Rattle.sig_json.specs.declared.limits.TheConstants.{LAST_NUMBER}
 use Rattle.sig_terms.specs.declared.call.Call.{Call}
 use Rattle.sig_terms.specs.declared.token.Token.{Token}
-use Rattle.sig_history.specs.Streams.{publication_of}
 use Rattle.sig_calls.specs.Table.{answer_of, over_top}
 use Rattle.sig_script.specs.declared.script.ScriptLine.{ScriptLine}
 use Rattle.sig_script.specs.declared.script.ScriptLine.TheVariants as line
@@ -12,7 +11,7 @@ use Rattle.sig_command.specs.declared.stop.Stop.{Stop}
 use Rattle.sig_command.specs.declared.stop.Stop.TheVariants.{Line, Full}
 use Rattle.sig_script.specs.Script.{script_line_of}
 use Rattle.sig_law.specs.World.{World, Reply, new_world, settle_call, sum_in}
-use Rattle.sig_world.specs.Replay.{Played, call_text, called, counted_at, create_call, played, played_answer, played_call, played_delivery, played_found, played_line, played_publication, poll_call, refused, replay_ends, script_stop, script_text, script_world, publish_call}
+use Rattle.sig_world.specs.Replay.{Played, call_text, called, counted_at, played, played_answer, played_call, played_delivery, played_found, played_line, replay_ends, script_stop, script_text, script_world}
 use Rattle.sig_world.specs.ReplayLaws.{text-goes, stop-goes, world-goes, text-stops, stop-stops}
 
 none_some : (s : Stop) → None ≡ Some s → ⊥
@@ -120,14 +119,6 @@ full-call number w n c h = by_test (over_top replay_ends.rules (sum_in replay_en
     by_test true e = one_number n e
     by_test false e = none_number n e
 
-full-publication : (number : ℕ) (w : World) (n : ℕ) (id subject : List ℕ) → (played_publication number w id subject).stop ≡ Some (Full n) → n ≡ LAST_NUMBER + 1
-full-publication number w n id subject h =
-    elim (is_some (publication_of id (sum_in replay_ends w).parts.published))
-    as (λ b. (let x : Played = if b then refused number w else played_call number w (publish_call id subject) in x.stop) ≡ Some (Full n) → n ≡ LAST_NUMBER + 1) [
-      | true ↦ λ e. no_number number n e
-      | false ↦ λ e. full-call number w n (publish_call id subject) e
-    ] h
-
 full-delivery : (number : ℕ) (w : World) (n : ℕ) (m : Option Token) → (played_delivery number w m).stop ≡ Some (Full n) → n ≡ LAST_NUMBER + 1
 full-delivery number w n None h = no_number number n h
 full-delivery number w n (Some m) h = none_number n h
@@ -138,11 +129,11 @@ full-answer number w n (Some r) h = full-call number w n (settle_call r) h
 
 full-line : (number : ℕ) (w : World) (n : ℕ) (l : ScriptLine) → (played_line number w l).stop ≡ Some (Full n) → n ≡ LAST_NUMBER + 1
 full-line number w n line.Skipped h = none_number n h
-full-line number w n (line.Create client) h = full-call number w n (create_call client) h
-full-line number w n (line.Publish id subject) h = full-publication number w n id subject h
-full-line number w n (line.Poll client stream most) h = full-call number w n (poll_call client stream most) h
+full-line number w n (line.Time time) h = none_number n h
+full-line number w n (line.Call c) h = full-call number w n c h
 full-line number w n (line.Deliver place) h = full-delivery number w n (counted_at place w.messages) h
 full-line number w n (line.Answer place) h = full-answer number w n (counted_at place w.replies) h
+full-line number w n (line.Check subject) h = none_number n h
 
 full-found : (number : ℕ) (w : World) (n : ℕ) (o : Option ScriptLine) → (played_found number w o).stop ≡ Some (Full n) → n ≡ LAST_NUMBER + 1
 full-found number w n None h = no_number number n h

@@ -1,14 +1,17 @@
 -- What a line does to what a replay keeps.
 use Rattle.std.specs.Option.{option_to_list}
 use Rattle.std.proofs.Common.{◌≡◌, ◌∙◌, ap, sym, subst, ℕ, ◌+◌, ◌<◌, List, [], ◌∷◌, ◌++◌, length, Option, Some, None, Bool, true, false, refl, append-nil, if◌then◌else◌}
-use Rattle.std.specs.Prelude.{Result, Ok, Err, OnOk, codes}
+use Rattle.std.specs.Prelude.{Result, Ok, Err, OnOk, codes, decimal}
 use Rattle.std.proofs.lemmas.Str.{is_utf8-from_IsUtf8}
 use Rattle.sig_set.proofs.ProperClaims.{ascii}
 use Rattle.std.proofs.lemmas.Bool.{lt-leb}
 use Rattle.sig_json.specs.declared.limits.TheConstants.{LAST_NUMBER, SCRIPT_LINE_BYTES}
 use Rattle.sig_receiver.specs.declared.heard.Heard.{Heard}
 use Rattle.sig_receiver.specs.Journal.{answer_to, journal_by}
-use Rattle.sig_receiver.specs.Receiver.{StandsFor}
+use Rattle.sig_receiver.specs.Receiver.{Received, StandsFor, nothing, received, received_of}
+use Rattle.sig_sessions.specs.Verdicts.{verdict_of}
+use Rattle.sig_sessions.specs.declared.verdict.Verdict.{Verdict}
+use Rattle.sig_subject.specs.declared.subject.Subject.{Subject}
 use Rattle.sig_set.specs.Written.{token_text}
 use Rattle.sig_terms.specs.declared.answer.Answer.{Answer}
 use Rattle.sig_terms.specs.declared.call.Call.{Call}
@@ -30,7 +33,7 @@ use Rattle.sig_command.specs.declared.stop.TellFault.TheVariants.{Stopped, Memor
 use Rattle.sig_script.specs.Script.{utf8_line}
 use Rattle.sig_command.specs.Telling.{StopsAt}
 use Rattle.sig_law.specs.World.{World, call_recorded, heard_of, new_world, sum_in, with_facts, with_messages}
-use Rattle.sig_world.specs.Replay.{call_text, called, heard_text, played, played_call, played_delivery, played_found, replay_ends, replay_key, replay_rules, replay_telling, replay_trust, script_stop, script_text, script_world, sum_after}
+use Rattle.sig_world.specs.Replay.{call_text, called, heard_text, numbered, played, played_call, played_check, played_delivery, played_found, played_time, replay_ends, replay_key, replay_rules, replay_telling, replay_trust, rows_in, script_stop, script_text, script_world, sum_after, verdict_word}
 use Rattle.sig_world.specs.Replaying.{Goes, GoesNot, IsAt, StandsAt}
 use Rattle.sig_world.proofs.ReplayLemmas.{line-goes, line-stops}
 
@@ -74,16 +77,13 @@ sum-on base fs (Some f) = sym (joined base fs (f ∷ []))
 
 -- a call was answered, its answer printed, its fact taken in, and what it hands out kept
 pub call-goes : (r r' : Replayer) (w : World) (c : Call) (number before : ℕ) (answer : Answer) (change : Option Fact) (text text' : List ℕ) → IsAt r w
-    → prepared_of replay_rules (sum_in replay_ends w) c 0 ≡ Ok (record { answer = answer; change = change })
+    → prepared_of replay_rules (sum_in replay_ends w) c w.time ≡ Ok (record { answer = answer; change = change })
     → before ≡ length r.messages.items → text' ≡ text ++ call_text number before answer
     → r'.rules ≡ r.rules → r'.trust ≡ r.trust → r'.outbox.sum ≡ sum_after r.outbox.sum change → r'.receiver ≡ r.receiver
-    → r'.messages.items ≡ r.messages.items ++ handed_by answer → r'.replies.items ≡ r.replies.items
+    → r'.messages.items ≡ r.messages.items ++ handed_by answer → r'.replies.items ≡ r.replies.items → r'.time ≡ r.time
     → Goes (played_call number w c) r' text text'
-call-goes r r' w c number before answer change text text' at prepared count added rules trust sum receiver messages replies =
-    let f = found replay_rules (sum_in replay_ends w) c 0 answer change prepared in
-    let within : over_top replay_rules (sum_in replay_ends w) c w.time ≡ false = ap (over_top replay_rules (sum_in replay_ends w) c) at.time ∙ f.within in
-    let answered : answer_of replay_rules (sum_in replay_ends w) c w.time ≡ answer = ap (answer_of replay_rules (sum_in replay_ends w) c) at.time ∙ f.answered in
-    let changed : change_of replay_rules (sum_in replay_ends w) c w.time ≡ change = ap (change_of replay_rules (sum_in replay_ends w) c) at.time ∙ f.changed in
+call-goes r r' w c number before answer change text text' at prepared count added rules trust sum receiver messages replies time =
+    let f = found replay_rules (sum_in replay_ends w) c w.time answer change prepared in
     let kept : List Fact = w.facts ++ option_to_list (change_of replay_rules (sum_in replay_ends w) c w.time) in
     let handed : List Token = handed_by (answer_of replay_rules (sum_in replay_ends w) c w.time) in
     let on : World = record { facts = kept; journal = w.journal; messages = w.messages ++ handed; replies = w.replies; time = w.time } in
@@ -97,23 +97,23 @@ call-goes r r' w c number before answer change text text' at prepared count adde
       stop = None;
       text = call_text number (length w.messages) (answer_of replay_rules (sum_in replay_ends w) c w.time);
       world = called w c;
-    }) within in
-    let recorded : call_recorded replay_ends c w ≡ with_facts w kept = ap (λ b. if b then w else with_facts w kept) within in
+    }) f.within in
+    let recorded : call_recorded replay_ends c w ≡ with_facts w kept = ap (λ b. if b then w else with_facts w kept) f.within in
     let next : called w c ≡ on =
-    ap (λ b. if b then call_recorded replay_ends c w else with_messages (call_recorded replay_ends c w) ((call_recorded replay_ends c w).messages ++ handed)) within
+    ap (λ b. if b then call_recorded replay_ends c w else with_messages (call_recorded replay_ends c w) ((call_recorded replay_ends c w).messages ++ handed)) f.within
     ∙ ap (λ (v : World). with_messages v (v.messages ++ handed)) recorded in
     subst (λ p. Goes p r' text text') (sym goes) (record {
       going = refl;
-      added = added ∙ ap (λ n. text ++ call_text number n answer) (count ∙ ap length at.messages) ∙ ap (λ a. text ++ call_text number (length w.messages) a) (sym answered);
+      added = added ∙ ap (λ n. text ++ call_text number n answer) (count ∙ ap length at.messages) ∙ ap (λ a. text ++ call_text number (length w.messages) a) (sym f.answered);
       on = subst (IsAt r') (sym next) (record {
         rules = rules ∙ at.rules;
         trust = trust ∙ at.trust;
         sum = sum ∙ ap (λ s. sum_after s change) at.sum ∙ sum-on (empty_sum replay_ends.store_id) w.facts change
-            ∙ ap (λ o. sum_of (empty_sum replay_ends.store_id) (w.facts ++ option_to_list o)) (sym changed);
+            ∙ ap (λ o. sum_of (empty_sum replay_ends.store_id) (w.facts ++ option_to_list o)) (sym f.changed);
         received = subst (λ x. StandsFor x w.journal) (sym receiver) at.received;
-        messages = messages ∙ ap (λ ms. ms ++ handed_by answer) at.messages ∙ ap (λ a. w.messages ++ handed_by a) (sym answered);
+        messages = messages ∙ ap (λ ms. ms ++ handed_by answer) at.messages ∙ ap (λ a. w.messages ++ handed_by a) (sym f.answered);
         replies = replies ∙ at.replies;
-        time = at.time;
+        time = time ∙ at.time;
       });
     })
 
@@ -126,9 +126,9 @@ pub heard-goes : (r r' : Replayer) (w : World) (m : Token) (number before : ℕ)
     → ((journal : List (List ℕ)) → StandsFor r.receiver journal → StandsFor r'.receiver (journal_by heard journal token))
     → before ≡ length r.replies.items → text' ≡ text ++ heard_text number before heard
     → r'.rules ≡ r.rules → r'.trust ≡ r.trust → r'.outbox ≡ r.outbox → r'.messages.items ≡ r.messages.items
-    → r'.replies.items ≡ r.replies.items ++ record { message = m; heard = heard } ∷ []
+    → r'.replies.items ≡ r.replies.items ++ record { message = m; heard = heard } ∷ [] → r'.time ≡ r.time
     → Goes (played_delivery number w (Some m)) r' text text'
-heard-goes r r' w m number before heard token text text' at signed answer kept count added rules trust outbox messages replies =
+heard-goes r r' w m number before heard token text text' at signed answer kept count added rules trust outbox messages replies time =
     let spelled : token ≡ token_text m.claims replay_key = signed ∙ ap (λ (x : Rules). token_text m.claims x.key) at.rules in
     let is : heard ≡ heard_of replay_ends w m =
     answer w.journal at.received ∙ ap (λ t. answer_to t [] (Some m.claims.iss) None w.journal token) at.trust
@@ -143,9 +143,47 @@ heard-goes r r' w m number before heard token text text' at signed answer kept c
         received = subst (λ j. StandsFor r'.receiver j) (ap (λ h. journal_by h w.journal token) is ∙ ap (λ bytes. journal_by (heard_of replay_ends w m) w.journal bytes) spelled) (kept w.journal at.received);
         messages = messages ∙ at.messages;
         replies = replies ∙ ap (λ rs. rs ++ record { message = m; heard = heard } ∷ []) at.replies ∙ ap (λ h. w.replies ++ record { message = m; heard = h } ∷ []) is;
-        time = at.time;
+        time = time ∙ at.time;
       };
     }
+
+-- ---- a time, and a question
+
+-- it is another time, and that was printed
+pub pass-goes : (r r' : Replayer) (w : World) (number time : ℕ) (text text' : List ℕ) → IsAt r w
+    → text' ≡ text ++ numbered number (codes "time " ++ decimal time)
+    → r'.rules ≡ r.rules → r'.trust ≡ r.trust → r'.outbox ≡ r.outbox → r'.receiver ≡ r.receiver
+    → r'.messages.items ≡ r.messages.items → r'.replies.items ≡ r.replies.items → r'.time ≡ time
+    → Goes (played_time number w time) r' text text'
+pass-goes r r' w number time text text' at added rules trust outbox receiver messages replies is = record {
+  going = refl;
+  added = added;
+  on = record {
+    rules = rules ∙ at.rules;
+    trust = trust ∙ at.trust;
+    sum = ap (λ o. o.sum) outbox ∙ at.sum;
+    received = subst (λ x. StandsFor x w.journal) (sym receiver) at.received;
+    messages = messages ∙ at.messages;
+    replies = replies ∙ at.replies;
+    time = is;
+  };
+}
+
+-- the rows of what a receiver keeps are those of its journal
+pub rows-kept : (r : Replayer) (w : World) → IsAt r w → r.receiver.rows ≡ rows_in w
+rows-kept r w at =
+    let kept : received r.receiver ≡ received_of nothing w.journal = at.received in
+    ap (λ (s : Received). s.rows) kept
+
+-- whether a subject may go on was printed
+pub check-goes : (r : Replayer) (w : World) (s : Subject) (number : ℕ) (v : Verdict) (text text' : List ℕ) → IsAt r w
+    → v ≡ verdict_of r.receiver.rows s → text' ≡ text ++ numbered number (verdict_word v.allow)
+    → Goes (played_check number w s) r text text'
+check-goes r w s number v text text' at is added = record {
+  going = refl;
+  added = added ∙ ap (λ (x : Verdict). text ++ numbered number (verdict_word x.allow)) (is ∙ ap (λ rows. verdict_of rows s) (rows-kept r w at));
+  on = at;
+}
 
 -- ---- a line
 

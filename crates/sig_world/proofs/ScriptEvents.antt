@@ -1,19 +1,23 @@
 -- The world of a script is what a schedule of its lines makes.
 use Rattle.std.proofs.Common.{◌≡◌, ◌∙◌, ap, sym, ℕ, zero, suc, ◌+◌, List, [], ◌∷◌, ◌++◌, length, Bool, true, false, Option, Some, None, refl}
-use Rattle.std.specs.Prelude.{is_none, is_some, if◌then◌else◌}
-use Rattle.std.specs.List.{slice_get}
+use Rattle.std.specs.Prelude.{◌≤◌, ◌&&◌, IfSome, is_none, if◌then◌else◌}
+use Rattle.std.specs.List.{list_all, slice_get}
+use Rattle.std.proofs.lemmas.Bool.{le-leb}
 use Rattle.sig_json.specs.declared.limits.TheConstants.{LAST_NUMBER}
 use Rattle.sig_terms.specs.declared.call.Call.{Call}
+use Rattle.sig_terms.specs.declared.call.Call.TheVariants as call
+use Rattle.sig_terms.specs.declared.call.PollAsk.{PollAsk}
+use Rattle.sig_terms.specs.declared.call.Reported.{Reported}
 use Rattle.sig_terms.specs.declared.token.Token.{Token}
-use Rattle.sig_history.specs.Streams.{publication_of}
 use Rattle.sig_calls.specs.Table.{answer_of, over_top}
 use Rattle.sig_command.specs.declared.stop.Stop.{Stop}
 use Rattle.sig_command.specs.declared.stop.Stop.TheVariants.{Line, Full}
-use Rattle.sig_law.specs.World.{Ends, World, Reply, Event, Acts, Delivered, Answered, answer_recorded, answer_told, delivery_recorded, delivery_told, new_world, happens, run, settle_call, sum_in}
+use Rattle.sig_law.specs.World.{Ends, World, Reply, Event, Acts, Called, Delivered, Answered, Elapsed, answer_recorded, answer_told, at_time, call_recorded, call_told, delivery_recorded, delivery_told, happens, is_refused_as, is_taken, may_come, new_world, run, settle_call, sum_in, tells_answers, was_answered}
+use Rattle.sig_script.specs.Laws.{IsProperLine, LinesAreProper, TellsNothing}
 use Rattle.sig_script.specs.Script.{script_line_of}
 use Rattle.sig_script.specs.declared.script.ScriptLine.{ScriptLine}
 use Rattle.sig_script.specs.declared.script.ScriptLine.TheVariants as line
-use Rattle.sig_world.specs.Replay.{Played, call_text, called, counted_at, create_call, played, played_answer, played_call, played_delivery, played_found, played_line, played_publication, poll_call, publish_call, refused, replay_ends, script_world}
+use Rattle.sig_world.specs.Replay.{Played, call_text, called, counted_at, played, played_answer, played_call, played_delivery, played_found, played_line, replay_ends, script_world}
 use Rattle.sig_world.specs.ReplayLaws.{world-goes, world-stops}
 use Rattle.sig_world.specs.Schedules.{ScriptsAreSchedules, answer_at, delivery_at, events_found, events_of, schedule_from}
 
@@ -46,14 +50,45 @@ call_world number w c h = at (over_top replay_ends.rules (sum_in replay_ends w) 
     at true h = none_some (Full (LAST_NUMBER + 1)) h
     at false h = refl
 
-publication_world : (number : ℕ) (w : World) (id subject : List ℕ) → (played_publication number w id subject).stop ≡ None
-    → (played_publication number w id subject).world ≡ called w (publish_call id subject)
-publication_world number w id subject h = at (is_some (publication_of id (sum_in replay_ends w).parts.published)) h
-  where
-    at : (b : Bool) → (let p : Played = if b then refused number w else played_call number w (publish_call id subject) in p.stop) ≡ None
-        → (let p : Played = if b then refused number w else played_call number w (publish_call id subject) in p.world) ≡ called w (publish_call id subject)
-    at true h = none_some (Line number) h
-    at false h = call_world number w (publish_call id subject) h
+-- it may come: it tells the transmitter no answer
+may_poll : (replies : List Reply) (ask : PollAsk) → ask.acks ≡ [] → ask.errors ≡ [] → tells_answers replies ask ≡ true
+may_poll replies ask acks errors =
+    ap (λ names. list_all (λ jti. was_answered is_taken jti replies) names && list_all (λ (e : Reported). was_answered (is_refused_as e.code) e.jti replies) ask.errors) acks
+    ∙ ap (λ reports. true && list_all (λ (e : Reported). was_answered (is_refused_as e.code) e.jti replies) reports) errors
+
+may_tell_nothing : (replies : List Reply) (c : Call) → TellsNothing c → may_come replies c ≡ true
+may_tell_nothing replies call.Metadata tells = refl
+may_tell_nothing replies (call.Create client want) tells = refl
+may_tell_nothing replies (call.ReadAll client) tells = refl
+may_tell_nothing replies (call.Read client stream) tells = refl
+may_tell_nothing replies (call.Patch client stream want) tells = refl
+may_tell_nothing replies (call.Put client stream want) tells = refl
+may_tell_nothing replies (call.Delete client stream) tells = refl
+may_tell_nothing replies (call.GetStatus client stream) tells = refl
+may_tell_nothing replies (call.SetStatus client stream status reason) tells = refl
+may_tell_nothing replies (call.Add client stream subject) tells = refl
+may_tell_nothing replies (call.Remove client stream subject) tells = refl
+may_tell_nothing replies (call.Verify client stream state) tells = refl
+may_tell_nothing replies (call.Poll client stream ask) tells = may_poll replies ask tells.0 tells.1
+may_tell_nothing replies (call.Publish id news) tells = refl
+may_tell_nothing replies (call.OperatorStatus stream status reason) tells = refl
+may_tell_nothing replies (call.Deliver stream) tells = refl
+may_tell_nothing replies (call.Hand streams) tells = refl
+may_tell_nothing replies (call.Settle stream number outcome) tells = absurd tells
+
+-- a call, where it may come
+abbrev recorded_where : Bool → World → Call → World
+recorded_where may w c = if may then call_recorded replay_ends c w else w
+
+abbrev called_where : Bool → World → Call → World
+called_where may w c = if may then call_told replay_ends c w (recorded_where may w c) else recorded_where may w c
+
+call_happens : (w : World) (c : Call) → TellsNothing c → called w c ≡ happens replay_ends w (Acts (Called c))
+call_happens w c tells = sym (ap (λ may. called_where may w c) (may_tell_nothing w.replies c tells))
+
+-- a time that there may be
+time_happens : (w : World) (time : ℕ) → time ≤ LAST_NUMBER → at_time w time ≡ happens replay_ends w (Elapsed time)
+time_happens w time within = sym (ap (λ b. if b then at_time w time else w) (le-leb time LAST_NUMBER within))
 
 delivery_world : (number : ℕ) (w : World) (place : ℕ) → (played_delivery number w (counted_at place w.messages)).stop ≡ None
     → (played_delivery number w (counted_at place w.messages)).world ≡ run replay_ends w (delivery_at place)
@@ -75,18 +110,19 @@ answer_world number w (suc place) h = at (slice_get w.replies place) refl h
     at None is h = none_some (Line number) h
     at (Some r) is h = call_world number w (settle_call r) h ∙ sym (ap (λ o. answer_told replay_ends o w (answer_recorded replay_ends o w)) is)
 
-line_world : (number : ℕ) (w : World) (l : ScriptLine) → (played_line number w l).stop ≡ None → (played_line number w l).world ≡ run replay_ends w (events_of l)
-line_world number w line.Skipped h = refl
-line_world number w (line.Create client) h = call_world number w (create_call client) h
-line_world number w (line.Publish id subject) h = publication_world number w id subject h
-line_world number w (line.Poll client stream most) h = call_world number w (poll_call client stream most) h
-line_world number w (line.Deliver place) h = delivery_world number w place h
-line_world number w (line.Answer place) h = answer_world number w place h
+line_world : (number : ℕ) (w : World) (l : ScriptLine) → IsProperLine l → (played_line number w l).stop ≡ None
+    → (played_line number w l).world ≡ run replay_ends w (events_of l)
+line_world number w line.Skipped proper h = refl
+line_world number w (line.Time time) proper h = time_happens w time proper
+line_world number w (line.Call c) proper h = call_world number w c h ∙ call_happens w c proper.1
+line_world number w (line.Deliver place) proper h = delivery_world number w place h
+line_world number w (line.Answer place) proper h = answer_world number w place h
+line_world number w (line.Check subject) proper h = refl
 
-found_world : (number : ℕ) (w : World) (o : Option ScriptLine) → (played_found number w o).stop ≡ None
+found_world : (number : ℕ) (w : World) (o : Option ScriptLine) → IfSome o IsProperLine → (played_found number w o).stop ≡ None
     → (played_found number w o).world ≡ run replay_ends w (events_found o)
-found_world number w None h = none_some (Line number) h
-found_world number w (Some l) h = line_world number w l h
+found_world number w None proper h = none_some (Line number) h
+found_world number w (Some l) proper h = line_world number w l proper h
 
 -- ---- lines
 
@@ -99,19 +135,19 @@ pub schedule_stops : (n : ℕ) (w : World) (l : List ℕ) (ls : List (List ℕ))
 schedule_stops n w l ls s e =
     ap (λ (o : Option Stop). if is_none o then events_found (script_line_of l) ++ schedule_from (n + 1) (played n w l).world ls else []) e
 
-from_line : (n : ℕ) (w : World) (ls : List (List ℕ)) → script_world n w ls ≡ run replay_ends w (schedule_from n w ls)
-from_line n w [] = refl
-from_line n w (l ∷ ls) = by_stop (played n w l).stop refl (from_line (n + 1) (played n w l).world ls)
+from_line : LinesAreProper → (n : ℕ) (w : World) (ls : List (List ℕ)) → script_world n w ls ≡ run replay_ends w (schedule_from n w ls)
+from_line proper n w [] = refl
+from_line proper n w (l ∷ ls) = by_stop (played n w l).stop refl (from_line proper (n + 1) (played n w l).world ls)
   where
     by_stop : (o : Option Stop) → (played n w l).stop ≡ o
         → script_world (n + 1) (played n w l).world ls ≡ run replay_ends (played n w l).world (schedule_from (n + 1) (played n w l).world ls)
         → script_world n w (l ∷ ls) ≡ run replay_ends w (schedule_from n w (l ∷ ls))
     by_stop None e later =
         world-goes n w l ls e ∙ later
-        ∙ ap (λ v. run replay_ends v (schedule_from (n + 1) (played n w l).world ls)) (found_world n w (script_line_of l) e)
+        ∙ ap (λ v. run replay_ends v (schedule_from (n + 1) (played n w l).world ls)) (found_world n w (script_line_of l) (proper l) e)
         ∙ sym (run_join replay_ends w (events_found (script_line_of l)) (schedule_from (n + 1) (played n w l).world ls))
         ∙ ap (run replay_ends w) (sym (schedule_goes n w l ls e))
     by_stop (Some s) e later = world-stops n w l ls s e ∙ ap (run replay_ends w) (sym (schedule_stops n w l ls s e))
 
-pub scripts_are_schedules : ScriptsAreSchedules
-scripts_are_schedules lines = from_line 1 new_world lines
+pub scripts_are_schedules : LinesAreProper → ScriptsAreSchedules
+scripts_are_schedules proper lines = from_line proper 1 new_world lines

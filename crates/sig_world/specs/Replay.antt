@@ -1,16 +1,12 @@
--- What a script prints: both ends run under its lines, one after another, over new stores at time 0.
-use Rattle.std.specs.Prelude.{ℕ, zero, suc, List, [], ◌∷◌, ◌++◌, ◌+◌, Option, Some, None, is_none, is_some, codes, decimal, length, unwrap_or, if◌then◌else◌}
+-- What a script prints: both ends run under its lines, one after another, over new stores; the time is 0 at first.
+use Rattle.std.specs.Prelude.{ℕ, zero, suc, List, [], ◌∷◌, ◌++◌, ◌+◌, Bool, true, false, Option, Some, None, is_none, codes, decimal, length, unwrap_or, if◌then◌else◌}
 use Rattle.std.specs.List.{slice_get}
 use Rattle.sig_json.specs.declared.limits.TheConstants.{LAST_NUMBER}
 use Rattle.sig_jws.specs.declared.key.Key.{Key}
-use Rattle.sig_subject.specs.declared.plain.Plain.TheVariants as plain
-use Rattle.sig_subject.specs.declared.simple.Simple.TheVariants as simple
-use Rattle.sig_subject.specs.declared.subject.Subject.TheVariants as subject
-use Rattle.sig_caep.specs.declared.kind.CaepKind.TheVariants as caep
-use Rattle.sig_event.specs.declared.event.Event.{Event}
-use Rattle.sig_event.specs.declared.event.Event.TheVariants as event
-use Rattle.sig_event.specs.declared.news.News.{News}
-use Rattle.sig_event.specs.News.{news}
+use Rattle.sig_subject.specs.declared.subject.Subject.{Subject}
+use Rattle.sig_event.specs.Status.{status_text}
+use Rattle.sig_sessions.specs.declared.row.Row.{Row}
+use Rattle.sig_sessions.specs.Verdicts.{verdict_of}
 use Rattle.sig_receiver.specs.declared.heard.Heard.{Heard}
 use Rattle.sig_receiver.specs.declared.heard.Heard.TheVariants.{Accepted, Seen, NotTaken}
 use Rattle.sig_set.specs.declared.trust.Trust.{Trust}
@@ -24,17 +20,16 @@ use Rattle.sig_terms.specs.declared.rules.Rules.{Rules}
 use Rattle.sig_terms.specs.declared.token.Token.{Token}
 use Rattle.sig_terms.specs.declared.token.Issued.{Issued}
 use Rattle.sig_terms.specs.declared.call.Call.{Call}
-use Rattle.sig_terms.specs.declared.call.Call.TheVariants as call
 use Rattle.sig_terms.specs.declared.answer.Answer.{Answer}
 use Rattle.sig_terms.specs.declared.answer.Answer.TheVariants as answer
 use Rattle.sig_terms.specs.declared.fact.Fact.{Fact}
-use Rattle.sig_history.specs.Streams.{Stream, publication_of}
+use Rattle.sig_history.specs.Streams.{Stream}
 use Rattle.sig_history.specs.Owed.{Sum, owed_count, sum_of}
 use Rattle.sig_calls.specs.Table.{answer_of, over_top}
 use Rattle.sig_command.specs.declared.stop.Stop.{Stop}
 use Rattle.sig_command.specs.declared.stop.Stop.TheVariants as stop
 use Rattle.sig_command.specs.Telling.{Telling}
-use Rattle.sig_law.specs.World.{Ends, World, Reply, new_world, call_recorded, call_told, delivery_recorded, delivery_told, sum_in, heard_of, settle_call}
+use Rattle.sig_law.specs.World.{Ends, World, Reply, new_world, at_time, call_recorded, call_told, delivery_recorded, delivery_told, sum_in, heard_of, settle_call}
 use Rattle.sig_script.specs.Script.{script_line_of}
 use Rattle.sig_script.specs.declared.script.ScriptLine.{ScriptLine}
 use Rattle.sig_script.specs.declared.script.ScriptLine.TheVariants as line
@@ -59,6 +54,7 @@ replay_rules = record {
   base = codes "http://tx.example";
   defaults = defaults.All;
   interval = 60;
+  gateway = None;
   operator = codes "operator";
   clients = replay_clients;
   key = replay_key;
@@ -79,30 +75,7 @@ replay_store =
 abbrev pub replay_ends : Ends
 replay_ends = record { rules = replay_rules; store_id = replay_store; trust = replay_trust }
 
--- ---- calls of lines
-
--- the call that makes a stream as the receiver wants none in particular
-abbrev pub create_call : List ℕ → Call
-create_call client = call.Create client (record { requested = None; delivery = None; description = None })
-
--- the call that asks for tokens and tells nothing
-abbrev pub poll_call : List ℕ → List ℕ → ℕ → Call
-poll_call client stream most = call.Poll client stream (record { max = Some most; acks = []; errors = [] })
-
--- a session was revoked, and no more is said (CAEP 1.0, section 3.1)
-abbrev pub revoked : Event
-revoked = event.Caep (record {
-  common = record { event_timestamp = None; initiating_entity = None; reason_admin = None; reason_user = None };
-  kind = caep.SessionRevoked;
-})
-
--- the session of an opaque subject was (RFC 9493, section 3.2.4)
-abbrev pub news_of : List ℕ → News
-news_of name = news (subject.Simple (simple.Plain (plain.Opaque name))) revoked
-
--- the call that says so
-abbrev pub publish_call : List ℕ → List ℕ → Call
-publish_call id name = call.Publish id (news_of name)
+-- ---- what lines find
 
 -- what stands at a place that is counted from 1
 abbrev pub counted_at : {T : Type 0} → ℕ → List T → Option T
@@ -136,18 +109,43 @@ messages_text number place (t ∷ more) =
     numbered number (codes "m" ++ decimal place ++ codes " " ++ token_name t.stream t.number)
     ++ messages_text number (place + 1) more
 
--- the transmitter's answer, after so many messages
+-- a notice that the operator's status made, where it made one
+abbrev pub notice_text : Option ℕ → List ℕ
+notice_text None = []
+notice_text (Some number) = codes " token " ++ decimal number
+
+-- a page of tokens for a poll, whose first message has this place
+abbrev pub sets_text : ℕ → ℕ → List Token → Bool → List ℕ
+sets_text number place tokens more =
+    numbered number (codes "sets " ++ decimal (length tokens) ++ codes " more " ++ yes_or_no more) ++ messages_text number place tokens
+
+-- tokens for a round of pushes, whose first message has this place
+abbrev pub handed_text : ℕ → ℕ → List Token → List ℕ
+handed_text number place tokens = numbered number (codes "handed " ++ decimal (length tokens)) ++ messages_text number place tokens
+
+-- the transmitter's answer, after so many messages; no line makes a call that is answered by nothing printed
 abbrev pub call_text : ℕ → ℕ → Answer → List ℕ
+call_text number before answer.Meta = []
 call_text number before (answer.Made conf) = numbered number (codes "made " ++ conf.stream)
-call_text number before (answer.Sets tokens more) =
-    numbered number (codes "sets " ++ decimal (length tokens) ++ codes " more " ++ yes_or_no more)
-    ++ messages_text number (before + 1) tokens
+call_text number before (answer.Conf conf) = numbered number (codes "conf " ++ conf.stream)
+call_text number before (answer.Confs confs) = []
+call_text number before answer.Gone = numbered number (codes "gone")
+call_text number before (answer.State stream status reason token) =
+    numbered number (codes "state " ++ stream ++ codes " " ++ status_text status ++ notice_text token)
+call_text number before answer.Added = numbered number (codes "added")
+call_text number before answer.Removed = numbered number (codes "removed")
+call_text number before (answer.Asked stream made) = numbered number (codes "asked " ++ token_name stream made)
+call_text number before (answer.Sets tokens more) = sets_text number (before + 1) tokens more
 call_text number before (answer.Published store_id tokens) =
     numbered number (codes "published " ++ decimal (length tokens)) ++ issued_text number tokens
+call_text number before (answer.Delivering stream) = []
+call_text number before (answer.Handed tokens) = handed_text number (before + 1) tokens
 call_text number before (answer.Settled count) = numbered number (codes "settled " ++ decimal count)
 call_text number before answer.NotFound = numbered number (codes "not-found")
 call_text number before answer.TooMany = numbered number (codes "too-many")
 call_text number before answer.Conflict = numbered number (codes "conflict")
+call_text number before answer.Disabled = numbered number (codes "disabled")
+call_text number before (answer.Early until) = numbered number (codes "early " ++ decimal until)
 call_text number before (answer.Long size) = numbered number (codes "long " ++ decimal size)
 
 -- the receiver's answer
@@ -160,7 +158,16 @@ heard_word (NotTaken code spot) = codes "refused " ++ code_text code ++ codes " 
 abbrev pub heard_text : ℕ → ℕ → Heard → List ℕ
 heard_text number before heard = numbered number (heard_word heard ++ codes " a" ++ decimal (before + 1))
 
+-- what the session table says of a subject: whether it may go on
+abbrev pub verdict_word : Bool → List ℕ
+verdict_word true = codes "allow"
+verdict_word false = codes "deny"
+
 -- ---- a line
+
+-- the session table
+abbrev pub rows_in : World → List Row
+rows_in world = fold_rows [] (distinct [] world.journal)
 
 -- what a line does: it may stop the script; else it prints, and the world goes on
 pub record Played : Type 0 where
@@ -191,12 +198,6 @@ played_call number world c =
       world = called world c;
     }
 
--- a publication; one whose id was used is refused
-abbrev pub played_publication : ℕ → World → List ℕ → List ℕ → Played
-played_publication number world id subject =
-    if is_some (publication_of id (sum_in replay_ends world).parts.published) then refused number world
-    else played_call number world (publish_call id subject)
-
 -- a message reaches the receiver, where there is one
 abbrev pub played_delivery : ℕ → World → Option Token → Played
 played_delivery number world None = refused number world
@@ -211,14 +212,30 @@ abbrev pub played_answer : ℕ → World → Option Reply → Played
 played_answer number world None = refused number world
 played_answer number world (Some r) = played_call number world (settle_call r)
 
+-- it is another time
+abbrev pub played_time : ℕ → World → ℕ → Played
+played_time number world time = record {
+  stop = None;
+  text = numbered number (codes "time " ++ decimal time);
+  world = at_time world time;
+}
+
+-- the receiver is asked about a subject
+abbrev pub played_check : ℕ → World → Subject → Played
+played_check number world s = record {
+  stop = None;
+  text = numbered number (verdict_word (verdict_of (rows_in world) s).allow);
+  world = world;
+}
+
 -- a line of this number
 abbrev pub played_line : ℕ → World → ScriptLine → Played
 played_line number world line.Skipped = record { stop = None; text = []; world = world }
-played_line number world (line.Create client) = played_call number world (create_call client)
-played_line number world (line.Publish id subject) = played_publication number world id subject
-played_line number world (line.Poll client stream most) = played_call number world (poll_call client stream most)
+played_line number world (line.Time time) = played_time number world time
+played_line number world (line.Call c) = played_call number world c
 played_line number world (line.Deliver place) = played_delivery number world (counted_at place world.messages)
 played_line number world (line.Answer place) = played_answer number world (counted_at place world.replies)
+played_line number world (line.Check s) = played_check number world s
 
 abbrev pub played_found : ℕ → World → Option ScriptLine → Played
 played_found number world None = refused number world
@@ -264,7 +281,7 @@ owed_text sum (s ∷ ss) = owed_line sum s.conf.stream ++ owed_text sum ss
 -- what is printed at the end: the session table, and what is owed
 abbrev pub end_text : World → List ℕ
 end_text world =
-    table_text (fold_rows [] (distinct [] world.journal)) (length (distinct [] world.journal))
+    table_text (rows_in world) (length (distinct [] world.journal))
     ++ owed_text (sum_in replay_ends world) (sum_in replay_ends world).parts.streams
 
 -- the script as a command over its lines

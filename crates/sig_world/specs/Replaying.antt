@@ -15,7 +15,7 @@ pub record IsAt (r : Replayer) (world : World) : Type 0 where
   pub received : StandsFor r.receiver world.journal
   pub messages : r.messages.items ≡ world.messages
   pub replies : r.replies.items ≡ world.replies
-  pub time : world.time ≡ 0
+  pub time : r.time ≡ world.time
 
 -- it has taken just these lines
 abbrev pub StandsAt : Replayer → List (List ℕ) → Type 0

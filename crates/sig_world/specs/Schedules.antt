@@ -1,11 +1,11 @@
 -- Scripts as schedules: what the lines of a script let happen, one event a line or none.
 use Rattle.std.specs.Prelude.{◌≡◌, ℕ, zero, suc, List, [], ◌∷◌, ◌++◌, ◌+◌, Option, Some, None, is_none, if◌then◌else◌}
-use Rattle.sig_law.specs.World.{World, Event, Acts, Called, Delivered, Answered, new_world, run}
+use Rattle.sig_law.specs.World.{World, Event, Acts, Elapsed, Called, Delivered, Answered, new_world, run}
 use Rattle.sig_law.specs.Law.{IsLawful}
 use Rattle.sig_script.specs.Script.{script_line_of}
 use Rattle.sig_script.specs.declared.script.ScriptLine.{ScriptLine}
 use Rattle.sig_script.specs.declared.script.ScriptLine.TheVariants as line
-use Rattle.sig_world.specs.Replay.{create_call, played, poll_call, publish_call, replay_ends, script_world}
+use Rattle.sig_world.specs.Replay.{played, replay_ends, script_world}
 
 -- a message that reaches the receiver, counted from 1
 abbrev pub delivery_at : ℕ → List Event
@@ -20,11 +20,11 @@ answer_at (suc place) = Acts (Answered place) ∷ []
 -- what a line lets happen
 abbrev pub events_of : ScriptLine → List Event
 events_of line.Skipped = []
-events_of (line.Create client) = Acts (Called (create_call client)) ∷ []
-events_of (line.Publish id subject) = Acts (Called (publish_call id subject)) ∷ []
-events_of (line.Poll client stream most) = Acts (Called (poll_call client stream most)) ∷ []
+events_of (line.Time time) = Elapsed time ∷ []
+events_of (line.Call c) = Acts (Called c) ∷ []
 events_of (line.Deliver place) = delivery_at place
 events_of (line.Answer place) = answer_at place
+events_of (line.Check subject) = []
 
 abbrev pub events_found : Option ScriptLine → List Event
 events_found None = []

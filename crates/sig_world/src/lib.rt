@@ -6,7 +6,7 @@
 //! `replay` runs both ends under a script, and writes the text that `specs/Replay` gives for it.
 //!
 //! Promised by `laws`: a script is a schedule of `sig_law`, so what holds over every schedule holds of what `replay` runs.
-//! Left out: time, which stands at 0, and everything that may be lost or repeated but by the script's own lines.
+//! Left out: everything that may be lost or repeated but by the script's own lines.
 #![tactic(auto)]
 
 pub mod laws;

@@ -1,10 +1,12 @@
 //! What the lines of a script print.
 
 ghost use Rattle.std.specs.Prelude.{◌≡◌, ◌++◌, ◌+◌, ◌<◌, ◌≤◌, IfOk, OnOk, codes, decimal, length, string_bytes};
+ghost use Rattle.sig_event.specs.Status.{status_text};
 ghost use Rattle.sig_receiver.specs.Printed.{yes_or_no};
-ghost use Rattle.sig_world.specs.Replay.{call_text, heard_text, heard_word, issued_text, messages_text, numbered, token_name};
+ghost use Rattle.sig_world.specs.Replay.{call_text, handed_text, heard_text, heard_word, issued_text, messages_text, notice_text, numbered, sets_text, token_name, verdict_word};
 
-use sig_json::{Bytes, Items, Memory};
+use sig_event::Status;
+use sig_json::{Bytes, Items, Listed, Memory, Text};
 use sig_outbox::{Answer, Issued, Token};
 use sig_receiver::Heard;
 use std::alloc::Global;
@@ -21,15 +23,57 @@ pub(crate) fn add_call(
     ensures { OnOk result (text.new ≡ text.old ++ call_text number before answer.now) }
 {
     match answer {
+        Answer::Meta | Answer::Confs { .. } | Answer::Delivering { .. } => Ok(()),
         Answer::Made { conf } => add_two(alloc, text, number, "made ", conf.stream.as_str()),
+        Answer::Conf { conf } => add_two(alloc, text, number, "conf ", conf.stream.as_str()),
+        Answer::Gone => add_line(alloc, text, number, "gone"),
+        Answer::State {
+            stream,
+            status,
+            reason: _,
+            token,
+        } => add_state(alloc, text, number, stream, *status, *token),
+        Answer::Added => add_line(alloc, text, number, "added"),
+        Answer::Removed => add_line(alloc, text, number, "removed"),
+        Answer::Asked {
+            stream,
+            number: made,
+        } => add_named(alloc, text, number, "asked ", stream.as_str(), *made),
         Answer::Sets { tokens, more } => add_sets(alloc, text, number, before, tokens, *more),
         Answer::Published { tokens, .. } => add_published(alloc, text, number, tokens),
+        Answer::Handed { tokens } => add_handed(alloc, text, number, before, tokens),
         Answer::Settled { count } => add_count(alloc, text, number, "settled ", *count),
         Answer::NotFound => add_line(alloc, text, number, "not-found"),
         Answer::TooMany => add_line(alloc, text, number, "too-many"),
         Answer::Conflict => add_line(alloc, text, number, "conflict"),
+        Answer::Disabled => add_line(alloc, text, number, "disabled"),
+        Answer::Early { until } => add_count(alloc, text, number, "early ", *until),
         Answer::Long { size } => add_count(alloc, text, number, "long ", *size),
     }
+}
+
+/// Adds what another time prints.
+pub(crate) fn add_time(
+    alloc: Global,
+    text: &mut Bytes,
+    number: u64,
+    time: u64,
+) -> Result<(), Memory>
+    ensures { OnOk result (text.new ≡ text.old ++ numbered number (codes "time " ++ decimal time)) }
+{
+    add_count(alloc, text, number, "time ", time)
+}
+
+/// Adds whether a subject may go on.
+pub(crate) fn add_verdict(
+    alloc: Global,
+    text: &mut Bytes,
+    number: u64,
+    allow: bool,
+) -> Result<(), Memory>
+    ensures { OnOk result (text.new ≡ text.old ++ numbered number (verdict_word allow)) }
+{
+    add_line(alloc, text, number, if allow { "allow" } else { "deny" })
 }
 
 /// Adds what the receiver's answer prints, after so many answers.
@@ -126,9 +170,48 @@ fn add_issued(alloc: Global, text: &mut Bytes, number: u64, tokens: &[Issued]) -
 fn add_token(alloc: Global, text: &mut Bytes, number: u64, token: &Issued) -> Result<(), Memory>
     ensures { OnOk result (text.new ≡ text.old ++ numbered number (codes "token " ++ token_name token.now.stream token.now.number)) }
 {
-    let stream = token.stream.as_str();
-    let place = token.number;
-    let line = format!(in alloc; "{number} token {stream}.{place}\n")?;
+    add_named(
+        alloc,
+        text,
+        number,
+        "token ",
+        token.stream.as_str(),
+        token.number,
+    )
+}
+
+// Adds words and a token by its stream and number.
+fn add_named(
+    alloc: Global,
+    text: &mut Bytes,
+    number: u64,
+    words: &str,
+    stream: &str,
+    made: u64,
+) -> Result<(), Memory>
+    ensures { OnOk result (text.new ≡ text.old ++ numbered number (words.now ++ token_name stream.now made)) }
+{
+    let line = format!(in alloc; "{number} {words}{stream}.{made}\n")?;
+    text.add(line.as_bytes())
+}
+
+// Adds a stream's status, and the notice that was made of it.
+fn add_state(
+    alloc: Global,
+    text: &mut Bytes,
+    number: u64,
+    stream: &Text,
+    status: Status,
+    token: Option<u64>,
+) -> Result<(), Memory>
+    ensures { OnOk result (text.new ≡ text.old ++ numbered number (codes "state " ++ stream.now ++ codes " " ++ status_text status ++ notice_text token)) }
+{
+    let stream = stream.as_str();
+    let status = status.as_str();
+    let line = match token {
+        None => format!(in alloc; "{number} state {stream} {status}\n")?,
+        Some(made) => format!(in alloc; "{number} state {stream} {status} token {made}\n")?,
+    };
     text.add(line.as_bytes())
 }
 
@@ -141,13 +224,32 @@ fn add_sets(
     more: bool,
 ) -> Result<(), Memory>
     requires { before < 9223372036854775808 }
-    ensures { OnOk result (text.new ≡ text.old ++ (numbered number (codes "sets " ++ decimal (length tokens.now) ++ codes " more " ++ yes_or_no more)
-        ++ messages_text number (before + 1) tokens.now)) }
+    ensures { OnOk result (text.new ≡ text.old ++ sets_text number (before + 1) tokens.now more) }
 {
     let count = tokens.as_slice().len();
     let further = word_for(more);
     let line = format!(in alloc; "{number} sets {count} more {further}\n")?;
     text.add(line.as_bytes())?;
+    add_messages(alloc, text, number, before + 1, tokens.as_slice())
+}
+
+fn add_handed(
+    alloc: Global,
+    text: &mut Bytes,
+    number: u64,
+    before: u64,
+    tokens: &Items<Token>,
+) -> Result<(), Memory>
+    requires { before < 9223372036854775808 }
+    ensures { OnOk result (text.new ≡ text.old ++ handed_text number (before + 1) tokens.now) }
+{
+    add_count(
+        alloc,
+        text,
+        number,
+        "handed ",
+        tokens.as_slice().len() as u64,
+    )?;
     add_messages(alloc, text, number, before + 1, tokens.as_slice())
 }
 

@@ -2,35 +2,31 @@
 
 ghost use Rattle.std.specs.Prelude.{◌≡◌, ◌++◌, IfOk, OnOk, option_map};
 ghost use Rattle.sig_set.specs.Spelled.{code_text};
-ghost use Rattle.sig_event.specs.declared.event.Event.{Event};
 ghost use Rattle.sig_calls.specs.Regular.{handed_by};
 ghost use Rattle.sig_ledger.specs.Room.{Ready};
 ghost use Rattle.sig_outbox.specs.State.{IsReady};
 ghost use Rattle.sig_law.specs.World as world;
-ghost use Rattle.sig_world.specs.Replay as spec;
 ghost use Rattle.sig_world.specs.Replay.{counted_at, sum_after};
 
-use crate::replay_text::{add_call, add_heard};
+use crate::replay_text::{add_call, add_heard, add_time, add_verdict};
 use crate::reply::Reply;
 use crate::running::print_owed;
 use crate::settings::{STORE_ID, replay_rules, replay_trust};
-use sig_caep::{CaepEvent, CaepKind, Common};
 use sig_command::{LinesEnd, Stop, TellFault, Teller};
-use sig_event::{Event, News};
 use sig_fold::print_table;
 use sig_json::limits::SCRIPT_LINE_BYTES;
 use sig_json::{Bytes, Items, Memory, Text};
 use sig_outbox::{
-    Answer, Call, Outbox, Outcome, PollAsk, PrepareFault, Prepared, Rules, Step, Token, Want,
+    Answer, Call, Outbox, Outcome, PrepareFault, Prepared, Rules, Step, Token,
 };
 use sig_outside::Sink;
 use sig_receiver::{Heard, Receiver};
 use sig_script::{ScriptLine, script_line};
 use sig_set::{Code, Trust, signed_claims};
-use sig_subject::{Plain, Simple, Subject};
+use sig_subject::Subject;
 use std::alloc::Global;
 
-/// A transmitter's core and a receiver, the messages between them, and the answers to these.
+/// A transmitter's core and a receiver, the messages between them, the answers to these, and the time.
 #[derive(Drop)]
 pub struct Replayer {
     pub(crate) alloc: Global,
@@ -40,6 +36,7 @@ pub struct Replayer {
     pub(crate) receiver: Receiver,
     pub(crate) messages: Vec<Token>,
     pub(crate) replies: Vec<Reply>,
+    pub(crate) time: u64,
 }
 
 impl Teller for Replayer {
@@ -94,7 +91,7 @@ impl Teller for Replayer {
 
 impl Replayer {
     ghost use Rattle.std.specs.Prelude.{◌≡◌, ◌<◌, ℕ, List, IfErr, IfOk, OnOk, Option, None, length};
-    ghost use Rattle.sig_world.specs.Replay.{create_call, played, played_answer, played_call, played_delivery, played_line, played_publication, poll_call, counted_at};
+    ghost use Rattle.sig_world.specs.Replay.{played, played_answer, played_call, played_check, played_delivery, played_line, played_time, counted_at};
     ghost use Rattle.sig_world.specs.Replaying.{Goes, GoesNot, IsAt};
     ghost use Rattle.sig_world.specs.Replay.{replay_ends, replay_rules};
     ghost use Rattle.sig_law.specs.World.{World, new_world, sum_in};
@@ -115,6 +112,7 @@ impl Replayer {
             receiver: Receiver::new(alloc),
             messages: Vec::new(alloc),
             replies: Vec::new(alloc),
+            time: 0,
         })
     }
 
@@ -148,75 +146,29 @@ impl Replayer {
     {
         match line {
             ScriptLine::Skipped => Ok(()),
-            ScriptLine::Create { client } => self.create(number, client, text),
-            ScriptLine::Publish { id, subject } => self.publish(number, id, subject, text),
-            ScriptLine::Poll {
-                client,
-                stream,
-                max,
-            } => self.poll(number, client, stream, max, text),
+            ScriptLine::Time { time } => Ok(self.pass(number, time, text)?),
+            ScriptLine::Call(call) => self.call(number, &call, text),
             ScriptLine::Deliver { message } => self.deliver(number, message, text),
             ScriptLine::Answer { reply } => self.answer(number, reply, text),
+            ScriptLine::Check { subject } => Ok(self.check(number, &subject, text)?),
         }
     }
 
-    fn create(&mut self, number: u64, client: Text, text: &mut Bytes) -> Result<(), TellFault>
-        requires { (world : World) × IsAt self.old world }
-        ensures plays { OnOk result ((world : World) → IsAt self.old world → Goes (played_call number world (create_call client)) self.new text.old text.new) }
-        ensures stops { IfErr result (λ fault. (world : World) → IsAt self.old world → GoesNot (played_call number world (create_call client)) fault) }
+    // It is another time.
+    fn pass(&mut self, number: u64, time: u64, text: &mut Bytes) -> Result<(), Memory>
+        ensures { OnOk result ((world : World) → IsAt self.old world → Goes (played_time number world time) self.new text.old text.new) }
     {
-        let want = Want {
-            requested: None,
-            delivery: None,
-            description: None,
-        };
-        self.call(number, &Call::Create { client, want }, text)
+        add_time(self.alloc, text, number, time)?;
+        self.time = time;
+        Ok(())
     }
 
-    fn poll(
-        &mut self,
-        number: u64,
-        client: Text,
-        stream: Text,
-        max: u64,
-        text: &mut Bytes,
-    ) -> Result<(), TellFault>
-        requires { (world : World) × IsAt self.old world }
-        ensures plays { OnOk result ((world : World) → IsAt self.old world → Goes (played_call number world (poll_call client stream max)) self.new text.old text.new) }
-        ensures stops { IfErr result (λ fault. (world : World) → IsAt self.old world → GoesNot (played_call number world (poll_call client stream max)) fault) }
+    // The receiver is asked about a subject.
+    fn check(&self, number: u64, subject: &Subject, text: &mut Bytes) -> Result<(), Memory>
+        ensures { OnOk result ((world : World) → IsAt self.now world → Goes (played_check number world subject.now) self.now text.old text.new) }
     {
-        let ask = PollAsk {
-            max: Some(max),
-            acks: Items::of(Vec::new(self.alloc)),
-            errors: Items::of(Vec::new(self.alloc)),
-        };
-        self.call(
-            number,
-            &Call::Poll {
-                client,
-                stream,
-                ask,
-            },
-            text,
-        )
-    }
-
-    fn publish(
-        &mut self,
-        number: u64,
-        id: Text,
-        subject: Text,
-        text: &mut Bytes,
-    ) -> Result<(), TellFault>
-        requires { (world : World) × IsAt self.old world }
-        ensures plays { OnOk result ((world : World) → IsAt self.old world → Goes (played_publication number world id subject) self.new text.old text.new) }
-        ensures stops { IfErr result (λ fault. (world : World) → IsAt self.old world → GoesNot (played_publication number world id subject) fault) }
-    {
-        if self.outbox.has_publication(&id) {
-            return Err(refused(number));
-        }
-        let news = news_of(subject);
-        self.call(number, &Call::Publish { id, news }, text)
+        let verdict = self.receiver.verdict(subject);
+        add_verdict(self.alloc, text, number, verdict.allow)
     }
 
     fn answer(&mut self, number: u64, place: u64, text: &mut Bytes) -> Result<(), TellFault>
@@ -269,7 +221,7 @@ impl Replayer {
         ensures plays { OnOk result ((world : World) → IsAt self.old world → Goes (played_call number world call.now) self.new text.old text.new) }
         ensures stops { IfErr result (λ fault. (world : World) → IsAt self.old world → GoesNot (played_call number world call.now) fault) }
     {
-        match self.outbox.prepare(&self.rules, call, 0) {
+        match self.outbox.prepare(&self.rules, call, self.time) {
             Ok(step) => {
                 self.take(number, step, text)?;
                 Ok(())
@@ -283,7 +235,7 @@ impl Replayer {
     fn take(&mut self, number: u64, step: Step, text: &mut Bytes) -> Result<(), Memory>
         requires { IsReady self.old.outbox step.change }
         ensures { OnOk result ((world : World) (call : Call) → IsAt self.old world
-            → prepared_of replay_rules (sum_in replay_ends world) call 0 ≡ Ok (reply_in step)
+            → prepared_of replay_rules (sum_in replay_ends world) call world.time ≡ Ok (reply_in step)
             → Goes (played_call number world call) self.new text.old text.new) }
     {
         let Step { answer, change } = step;
@@ -296,31 +248,6 @@ impl Replayer {
         )?;
         commit(&mut self.outbox, change);
         keep_handed(&mut self.messages, answer)
-    }
-}
-
-// The session of an opaque subject was revoked (RFC 9493, section 3.2.4).
-fn news_of(name: Text) -> News
-    ensures { result ≡ spec.news_of name }
-{
-    News {
-        subject: Subject::Simple(Simple::Plain(Plain::Opaque { id: name })),
-        event: Event::Caep(revoked()),
-    }
-}
-
-// A session was revoked, and no more is said (CAEP 1.0, section 3.1).
-fn revoked() -> CaepEvent
-    ensures { Event.Caep result ≡ spec.revoked }
-{
-    CaepEvent {
-        common: Common {
-            event_timestamp: None,
-            initiating_entity: None,
-            reason_admin: None,
-            reason_user: None,
-        },
-        kind: CaepKind::SessionRevoked,
     }
 }
 
@@ -348,6 +275,7 @@ fn keep_handed(messages: &mut Vec<Token>, answer: Answer) -> Result<(), Memory>
 {
     match answer {
         Answer::Sets { tokens, more: _ } => keep(messages, tokens),
+        Answer::Handed { tokens } => keep(messages, tokens),
         _ => Ok(()),
     }
 }

@@ -23,6 +23,7 @@ pub(crate) fn replay_rules(alloc: Global) -> Result<Rules, Memory>
         base: Text::of(alloc, "http://tx.example")?,
         defaults: Defaults::All,
         interval: 60,
+        gateway: None,
         operator: Text::of(alloc, "operator")?,
         clients: clients(alloc)?,
         key: key(alloc)?,

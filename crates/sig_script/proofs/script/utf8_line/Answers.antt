@@ -1,6 +1,6 @@
 use Rattle.std.proofs.Common.{◌∙◌, ap}
 use Rattle.sig_script.specs.Script.{text_line}
-use Rattle.sig_script.proofs.ScriptLemmas.{line_of_utf8, line_of_none, if_ok_then}
+use Rattle.sig_script.proofs.TextLemmas.{line_of_utf8, line_of_none, if_ok_then}
 use Rattle.sig_script.proofs.script.utf8_line.Goals as goal
 
 pub returns-in-Ok : goal.returns-in-Ok

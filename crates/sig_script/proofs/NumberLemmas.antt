@@ -1,23 +1,14 @@
--- What is read of the words of a script.
+-- The numbers of lines as they are parsed.
 use Rattle.std.proofs.Common.{◌≡◌, ◌∙◌, ap, sym, subst, ℕ, suc, ◌-◌, ◌<◌, ◌≤◌, ◌^◌, ◌==◌, List, [], ◌∷◌, Bool, true, false, Option, Some, None, refl, inl, inr, arith, true≢false, drop}
-use Rattle.std.specs.Prelude.{Result, Ok, Err, IfOk, IsUtf8, cond, nat_lt, nat_le, not, ◌&&◌, option_and_then, if◌then◌else◌}
+use Rattle.std.specs.Prelude.{Result, Ok, Err, cond, nat_lt, nat_le, not, ◌&&◌, option_and_then, if◌then◌else◌}
 use Rattle.std.specs.List.{list_all}
-use Rattle.std.specs.Str.{is_utf8}
-use Rattle.std.proofs.lemmas.Str.{is_utf8-from_IsUtf8, IsUtf8-from_is_utf8}
 use Rattle.std.specs.Result.{result_ok}
 use Rattle.std.specs.Char.{digit_value}
 use Rattle.std.specs.Str.Parse.{AllDigits, IsNumeral, ParsesUnsigned, digits_value, without_leading_plus}
 use Rattle.std.proofs.lemmas.Bool.{and_parts, leb-true, le-leb, lt-leb}
 use Rattle.std.proofs.lemmas.Bool.Decides.{leb_tells}
 use Rattle.sig_json.specs.declared.limits.TheConstants.{LAST_NUMBER}
-use Rattle.sig_script.specs.Script.{is_decimal, is_digit, number_of, text_line, utf8_line, within}
-
--- where there is nothing that a text spells, it spells none
-pub none_parsed : (o : Option (List ℕ)) → ((u : List ℕ) → o ≡ Some u → ⊥) → None ≡ o
-none_parsed None h = refl
-none_parsed (Some u) h = absurd (h u refl)
-
--- ---- numbers
+use Rattle.sig_script.specs.Numbers.{is_decimal, is_digit, number_of, within}
 
 -- a digit is below ten
 digit_small : (b : ℕ) → is_digit b ≡ true → digit_value b < 10
@@ -73,23 +64,20 @@ parsed_number word (Err e) h p =
     over_last : (n : ℕ) → (n < 2 ^ 64 → ⊥) → LAST_NUMBER < n
     over_last n h = elim (leb_tells (2 ^ 64) n) [ inl p ↦ omega (arith, p.1) | inr p ↦ absurd (h p.1) ]
 
--- ---- texts
+none_some : (n : ℕ) → (let o : Option ℕ = None in o ≡ Some n) → ⊥
+none_some n h = cc h
 
--- the line of a text in UTF-8
-pub line_of_utf8 : (bytes : List ℕ) → IsUtf8 bytes → text_line bytes ≡ utf8_line bytes
-unfolding utf8_line
-line_of_utf8 bytes h = sym (ap (λ t. if t then text_line bytes else None) (is_utf8-from_IsUtf8 bytes h))
+some_same : (m n : ℕ) → (let o : Option ℕ = Some m in o ≡ Some n) → m ≡ n
+some_same m n h = cc h
 
--- there is none of other bytes
-pub line_of_none : (bytes : List ℕ) → (IsUtf8 bytes → ⊥) → None ≡ utf8_line bytes
-unfolding utf8_line
-line_of_none bytes h = sym (ap (λ t. if t then text_line bytes else None) (not_utf8 bytes (is_utf8 bytes) refl h))
+-- a number that a word is isn't too great
+pub number_within : (word : List ℕ) (n : ℕ) → number_of word ≡ Some n → n ≤ LAST_NUMBER
+number_within word n h = by_decimal (is_decimal word) h
   where
-    not_utf8 : (bytes : List ℕ) (t : Bool) → is_utf8 bytes ≡ t → (IsUtf8 bytes → ⊥) → is_utf8 bytes ≡ false
-    not_utf8 bytes true is h = absurd (h (IsUtf8-from_is_utf8 bytes is))
-    not_utf8 bytes false is h = is
+    by_limit : (m : ℕ) (t : Bool) → nat_le m LAST_NUMBER ≡ t → (if t then Some m else None) ≡ Some n → n ≤ LAST_NUMBER
+    by_limit m true is e = subst (λ k. k ≤ LAST_NUMBER) (some_same m n e) (leb-true m LAST_NUMBER is)
+    by_limit m false is e = absurd (none_some n e)
 
--- a fact on a success gives another
-pub if_ok_then : {T E : Type 0} {P Q : T → Type 0} (r : Result T E) → ((x : T) → P x → Q x) → IfOk r P → IfOk r Q
-if_ok_then (Ok x) f h = f x h
-if_ok_then (Err e) f h = tt
+    by_decimal : (t : Bool) → (if t then within (digits_value 10 word) else None) ≡ Some n → n ≤ LAST_NUMBER
+    by_decimal true e = by_limit (digits_value 10 word) (nat_le (digits_value 10 word) LAST_NUMBER) refl e
+    by_decimal false e = absurd (none_some n e)

@@ -1,8 +1,8 @@
 use Rattle.std.proofs.Common.{◌≡◌, ◌∙◌, ap, sym, subst, true}
 use Rattle.std.specs.Prelude.{option_and_then}
-use Rattle.sig_script.specs.Script.{is_decimal, within}
-use Rattle.sig_script.proofs.ScriptLemmas.{parsed_number}
-use Rattle.sig_script.proofs.script.number_in.Goals as goal
+use Rattle.sig_script.specs.Numbers.{is_decimal, within}
+use Rattle.sig_script.proofs.NumberLemmas.{parsed_number}
+use Rattle.sig_script.proofs.numbers.number_in.Goals as goal
 
 pub returns : goal.returns
 returns c =
