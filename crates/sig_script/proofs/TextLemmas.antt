@@ -1,5 +1,5 @@
 -- The texts that lines are.
-use Rattle.std.proofs.Common.{◌≡◌, ap, sym, List, ℕ, Bool, true, false, None}
+use Rattle.std.proofs.Common.{◌≡◌, ap, sym, List, ℕ, Bool, true, false, None, refl}
 use Rattle.std.specs.Prelude.{Result, Ok, Err, IfOk, IsUtf8, if◌then◌else◌}
 use Rattle.std.specs.Str.{is_utf8}
 use Rattle.std.proofs.lemmas.Str.{is_utf8-from_IsUtf8, IsUtf8-from_is_utf8}

@@ -38,7 +38,11 @@ pub(crate) fn patch_line(alloc: Global, rest: &str) -> Result<Option<ScriptLine>
     };
     let client = Text::of(alloc, names.client)?;
     let stream = Text::of(alloc, names.stream)?;
-    Ok(Some(ScriptLine::Call(Call::Patch { client, stream, want })))
+    Ok(Some(ScriptLine::Call(Call::Patch {
+        client,
+        stream,
+        want,
+    })))
 }
 
 /// `put <client> <stream> <json>`: a client replaces a stream's configuration.
@@ -53,7 +57,11 @@ pub(crate) fn put_line(alloc: Global, rest: &str) -> Result<Option<ScriptLine>, 
     };
     let client = Text::of(alloc, names.client)?;
     let stream = Text::of(alloc, names.stream)?;
-    Ok(Some(ScriptLine::Call(Call::Put { client, stream, want })))
+    Ok(Some(ScriptLine::Call(Call::Put {
+        client,
+        stream,
+        want,
+    })))
 }
 
 /// `add <client> <stream> <json>`: a client adds a subject to a stream.
@@ -68,7 +76,11 @@ pub(crate) fn add_line(alloc: Global, rest: &str) -> Result<Option<ScriptLine>, 
     };
     let client = Text::of(alloc, names.client)?;
     let stream = Text::of(alloc, names.stream)?;
-    Ok(Some(ScriptLine::Call(Call::Add { client, stream, subject })))
+    Ok(Some(ScriptLine::Call(Call::Add {
+        client,
+        stream,
+        subject,
+    })))
 }
 
 /// `remove <client> <stream> <json>`: a client removes a subject from a stream.
@@ -83,7 +95,11 @@ pub(crate) fn remove_line(alloc: Global, rest: &str) -> Result<Option<ScriptLine
     };
     let client = Text::of(alloc, names.client)?;
     let stream = Text::of(alloc, names.stream)?;
-    Ok(Some(ScriptLine::Call(Call::Remove { client, stream, subject })))
+    Ok(Some(ScriptLine::Call(Call::Remove {
+        client,
+        stream,
+        subject,
+    })))
 }
 
 /// `status <client> <stream> <status>`: a client sets a stream's status.
@@ -98,7 +114,12 @@ pub(crate) fn status_line(alloc: Global, rest: &str) -> Result<Option<ScriptLine
     };
     let client = Text::of(alloc, names.client)?;
     let stream = Text::of(alloc, names.stream)?;
-    Ok(Some(ScriptLine::Call(Call::SetStatus { client, stream, status, reason: None })))
+    Ok(Some(ScriptLine::Call(Call::SetStatus {
+        client,
+        stream,
+        status,
+        reason: None,
+    })))
 }
 
 /// `poll <client> <stream> <max>`: a client asks for tokens, and tells nothing.
@@ -113,7 +134,11 @@ pub(crate) fn poll_line(alloc: Global, rest: &str) -> Result<Option<ScriptLine>,
     };
     let client = Text::of(alloc, names.client)?;
     let stream = Text::of(alloc, names.stream)?;
-    Ok(Some(ScriptLine::Call(Call::Poll { client, stream, ask: ask_for(alloc, most) })))
+    Ok(Some(ScriptLine::Call(Call::Poll {
+        client,
+        stream,
+        ask: ask_for(alloc, most),
+    })))
 }
 
 // It asks for so many tokens at most, and tells nothing.

@@ -16,9 +16,7 @@ use sig_command::{LinesEnd, Stop, TellFault, Teller};
 use sig_fold::print_table;
 use sig_json::limits::SCRIPT_LINE_BYTES;
 use sig_json::{Bytes, Items, Memory, Text};
-use sig_outbox::{
-    Answer, Call, Outbox, Outcome, PrepareFault, Prepared, Rules, Step, Token,
-};
+use sig_outbox::{Answer, Call, Outbox, Outcome, PrepareFault, Prepared, Rules, Step, Token};
 use sig_outside::Sink;
 use sig_receiver::{Heard, Receiver};
 use sig_script::{ScriptLine, script_line};
