@@ -8,7 +8,7 @@ use Rattle.sig_history.specs.Facts.{parts_after, stream_after}
 use Rattle.sig_history.specs.Owed.{Sum, is_of, owed_after, owed_by, sum_of, survives, takes_off}
 use Rattle.sig_calls.specs.Settling.{settled_fact}
 use Rattle.sig_history.proofs.JoinLemmas.{filter_same, found}
-use Rattle.sig_calls.proofs.SettledLemmas.{none_made}
+use Rattle.sig_calls.proofs.SilentLemmas.{none_made}
 
 -- tokens without those that a fact takes off
 abbrev pub left_by : List ℕ → Option Fact → List Made → List Made

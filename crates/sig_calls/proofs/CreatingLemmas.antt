@@ -1,40 +1,31 @@
 -- A client that makes a stream.
-use Rattle.std.proofs.Common.{◌≡◌, sym, subst, ℕ, ◌+◌, List, [], ◌∷◌, true, false, ◌&&◌, Option, Some, None, bytes_eq, IsUtf8, if◌then◌else◌, refl, ap}
+use Rattle.std.proofs.Common.{◌≡◌, ◌∙◌, sym, subst, ℕ, ◌+◌, ◌<◌, ◌≤◌, List, [], ◌∷◌, Bool, true, false, ◌&&◌, ◌||◌, Option, Some, None, bytes_eq, IsUtf8, if◌then◌else◌, refl, ap, arith}
 use Rattle.std.specs.Prelude.{All, length, nat_eq, nat_le, nat_lt}
-use Rattle.std.specs.List.{list_all}
+use Rattle.std.specs.List.{list_all, list_any}
 use Rattle.std.specs.Str.{is_utf8}
-use Rattle.std.proofs.lemmas.Bool.{and_from, and_parts, false≢true, leb-false, lt-ltb, ne_eqb}
+use Rattle.std.proofs.lemmas.Bool.{and_from, and_parts, false≢true, leb-false, leb-true, lt-ltb, ltb-true, ne_eqb}
 use Rattle.std.proofs.lemmas.List.Elements.{All-cons, All-nil}
 use Rattle.std.proofs.lemmas.Str.{IsUtf8-from_is_utf8}
 use Rattle.sig_json.specs.declared.limits.TheConstants.{CLIENT_NAME_BYTES, LAST_NUMBER, STREAMS_PER_CLIENT}
 use Rattle.sig_terms.specs.declared.want.Want.{Want}
 use Rattle.sig_terms.specs.declared.rules.Client.{Client}
 use Rattle.sig_terms.specs.declared.rules.Rules.{Rules}
-use Rattle.sig_terms.specs.declared.answer.Answer.{Answer}
 use Rattle.sig_terms.specs.declared.answer.Answer.TheVariants as answer
-use Rattle.sig_terms.specs.declared.call.Call.{Call}
 use Rattle.sig_terms.specs.declared.call.Call.TheVariants.{Create}
 use Rattle.sig_terms.specs.declared.fact.Fact.{Fact}
 use Rattle.sig_terms.specs.declared.fact.Fact.TheVariants.{Created}
 use Rattle.sig_history.specs.Streams.{Parts, client_in, created_by, hyphen, stream_name, streams_of}
 use Rattle.sig_history.specs.Facts.{made_by}
 use Rattle.sig_history.specs.Owed.{Sum}
-use Rattle.sig_history.specs.Sound.{is_apt, is_client_name, is_name_character, is_next, may_be_made}
+use Rattle.sig_history.specs.Sound.{is_apt, is_client_name, is_name_character, is_next, is_past, may_be_made}
 use Rattle.sig_calls.specs.Creating.{client_of, created_for, creating, next_conf, next_stream}
+use Rattle.sig_calls.specs.Laws.{goes_past}
 use Rattle.sig_calls.specs.Proper.{IsProperRules, is_proper_client}
-use Rattle.sig_calls.specs.Regular.{IsOwedAfter, IsRegular, handed_by}
+use Rattle.sig_calls.specs.Regular.{IsOwedAfter}
 use Rattle.sig_calls.specs.Told.{only}
 use Rattle.sig_history.proofs.StreamLemmas.{same_text, text_itself}
-use Rattle.sig_calls.proofs.SettledLemmas.{nothing_may_be_made}
-
--- an answer that changes nothing and hands out nothing
-pub only_regular : (rules : Rules) (sum : Sum) (call : Call) (now : ℕ) (a : Answer) → handed_by a ≡ [] → IsRegular rules sum call now (only a)
-only_regular rules sum call now a none = record {
-  fits = λ low. tt;
-  ours = λ proper early. tt;
-  hands = subst (All (IsOwedAfter sum None)) (sym none) (All-nil (IsOwedAfter sum None));
-  acked = tt;
-}
+use Rattle.sig_calls.proofs.SilentLemmas.{none_made, nothing_may_be_made}
+use Rattle.sig_calls.proofs.ToldLemmas.{IsLawful, only_lawful}
 
 -- ---- names
 
@@ -87,32 +78,65 @@ texts_utf8 (text ∷ texts) h =
     let both = and_parts (is_utf8 text) (list_all is_utf8 texts) h in
     All-cons IsUtf8 text texts (IsUtf8-from_is_utf8 text both.0) (texts_utf8 texts both.1)
 
+-- ---- numbers
+
+-- a number is at the top exactly where the next one is above it
+next_above : (top n : ℕ) → nat_le top n ≡ nat_lt top (n + 1)
+next_above top n =
+    elim (nat_le top n) as (λ b. nat_le top n ≡ b → b ≡ nat_lt top (n + 1)) [
+      | true ↦ λ is. let low : top ≤ n = leb-true top n is in sym (lt-ltb top (n + 1) (omega arith))
+      | false ↦ λ is. let high : n < top = leb-false top n is in
+          elim (nat_lt top (n + 1)) as (λ b. nat_lt top (n + 1) ≡ b → false ≡ b) [
+            | true ↦ λ above. let more : top < n + 1 = ltb-true top (n + 1) above in absurd (omega arith)
+            | false ↦ λ below. refl
+          ] refl
+    ] refl
+
+or_none : (a : Bool) → a ≡ (a || false)
+or_none true = refl
+or_none false = refl
+
+stream_exact : (rules : Rules) (parts : Parts) (want : Want) (now : ℕ) (c : Client) → is_client_name c.name ≡ true
+    → nat_le LAST_NUMBER (created_by c.name parts.created) ≡ goes_past parts (Some (Created (next_conf rules parts c want) now))
+stream_exact rules parts want now c ok =
+    let name : List ℕ = stream_name c.name (created_by c.name parts.created + 1) in
+    let made : made_by parts (Created (next_conf rules parts c want) now) ≡ [] = none_made parts (Created (next_conf rules parts c want) now) (λ s. refl) in
+    next_above LAST_NUMBER (created_by c.name parts.created)
+    ∙ ap (λ n. nat_lt LAST_NUMBER (created_by n parts.created + 1)) (sym (client_found c.name (created_by c.name parts.created + 1) ok))
+    ∙ or_none (nat_lt LAST_NUMBER (created_by (client_in name) parts.created + 1))
+    ∙ ap (λ l. nat_lt LAST_NUMBER (created_by (client_in name) parts.created + 1) || list_any is_past l) (sym made)
+
 -- ---- the call
 
-created_regular : (rules : Rules) (sum : Sum) (name : List ℕ) (want : Want) (now : ℕ) (c : Client) → is_proper_client c ≡ true
-    → IsRegular rules sum (Create name want) now (created_for rules sum.parts want now (Some c))
-created_regular rules sum name want now c proper =
+next_lawful : (rules : Rules) (sum : Sum) (name : List ℕ) (want : Want) (now : ℕ) (c : Client) → is_proper_client c ≡ true
+    → nat_le STREAMS_PER_CLIENT (streams_of c.name sum.parts.streams) ≡ false
+    → IsLawful rules sum (Create name want) now (next_stream rules sum.parts c want now)
+next_lawful rules sum name want now c proper few =
     let both = and_parts (is_client_name c.name) (list_all is_utf8 c.aud) proper in
     let made : Fact = Created (next_conf rules sum.parts c want) now in
-    elim (nat_le STREAMS_PER_CLIENT (streams_of c.name sum.parts.streams)) as (λ b. nat_le STREAMS_PER_CLIENT (streams_of c.name sum.parts.streams) ≡ b
-    → IsRegular rules sum (Create name want) now (if b then only answer.TooMany else next_stream rules sum.parts c want now)) [
-      | true ↦ λ many. only_regular rules sum (Create name want) now answer.TooMany refl
-      | false ↦ λ few. record {
+    record {
+      exact = stream_exact rules sum.parts want now c both.0;
+      regular = λ whole. record {
         fits = λ low. and_from (may_be_made (made_by sum.parts made)) (is_apt sum made) (nothing_may_be_made sum.parts made (λ s. refl))
             (next_may_be sum.parts c.name both.0 few low);
         ours = λ ok early. (refl, texts_utf8 c.aud both.1);
         hands = All-nil (IsOwedAfter sum (Some made));
-        acked = λ m there no. no;
-      }
+        acked = λ m there no. cc no;
+      };
+    }
+
+created_lawful : (rules : Rules) (sum : Sum) (name : List ℕ) (want : Want) (now : ℕ) (o : Option Client)
+    → ((c : Client) → o ≡ Some c → is_proper_client c ≡ true) → IsLawful rules sum (Create name want) now (created_for rules sum.parts want now o)
+created_lawful rules sum name want now None proper = only_lawful rules sum (Create name want) now answer.NotFound refl
+created_lawful rules sum name want now (Some c) proper =
+    elim (nat_le STREAMS_PER_CLIENT (streams_of c.name sum.parts.streams)) as (λ b. nat_le STREAMS_PER_CLIENT (streams_of c.name sum.parts.streams) ≡ b
+    → IsLawful rules sum (Create name want) now (if b then only answer.TooMany else next_stream rules sum.parts c want now)) [
+      | true ↦ λ many. only_lawful rules sum (Create name want) now answer.TooMany refl
+      | false ↦ λ few. next_lawful rules sum name want now c (proper c refl) few
     ] refl
 
-creating_for : (rules : Rules) (sum : Sum) (name : List ℕ) (want : Want) (now : ℕ) (o : Option Client)
-    → ((c : Client) → o ≡ Some c → is_proper_client c ≡ true) → IsRegular rules sum (Create name want) now (created_for rules sum.parts want now o)
-creating_for rules sum name want now None proper = only_regular rules sum (Create name want) now answer.NotFound refl
-creating_for rules sum name want now (Some c) proper = created_regular rules sum name want now c (proper c refl)
-
-pub creating_regular : (rules : Rules) (sum : Sum) (name : List ℕ) (want : Want) (now : ℕ) → IsProperRules rules
-    → IsRegular rules sum (Create name want) now (creating rules sum.parts name want now)
-creating_regular rules sum name want now proper =
-    creating_for rules sum name want now (client_of name rules.clients)
+pub creating_lawful : (rules : Rules) (sum : Sum) (name : List ℕ) (want : Want) (now : ℕ) → IsProperRules rules
+    → IsLawful rules sum (Create name want) now (creating rules sum.parts name want now)
+creating_lawful rules sum name want now proper =
+    created_lawful rules sum name want now (client_of name rules.clients)
     (λ c is. client_proper name rules.clients c (and_parts (is_utf8 rules.issuer) (list_all is_proper_client rules.clients) proper).1 is)

@@ -1,27 +1,29 @@
 -- A poll.
-use Rattle.std.proofs.Common.{option_to_list, ◌≡◌, ◌∙◌, ap, sym, subst, ℕ, List, [], ◌∷◌, map, take, true, false, ◌&&◌, ◌==◌, Option, Some, None, is_none, bytes_eq, get_or, if◌then◌else◌, refl, inl, inr}
+use Rattle.std.proofs.Common.{◌≡◌, ◌∙◌, ap, sym, subst, ℕ, List, [], ◌∷◌, true, false, ◌&&◌, ◌==◌, Option, Some, None, is_none, bytes_eq, if◌then◌else◌, refl, inl, inr}
 use Rattle.std.specs.Prelude.{All, Contains, ◌⊎◌}
 use Rattle.std.specs.List.{cons_option, list_any}
 use Rattle.std.proofs.lemmas.Bool.{and_from, and_parts, eq-eqb, eqb-true, not_from_false, or_cases, or_from, or_left, or_parts, or_right}
-use Rattle.std.proofs.lemmas.List.Elements.{All-cons, All-contains, All-contains_itself, All-head, All-map, All-nil, All-tail, All-take, All-weaker}
+use Rattle.std.proofs.lemmas.List.Elements.{All-contains, All-head, All-tail, All-weaker}
+use Rattle.sig_terms.specs.Deliveries.{is_push}
 use Rattle.sig_terms.specs.declared.rules.Rules.{Rules}
 use Rattle.sig_terms.specs.declared.answer.Answer.TheVariants as answer
 use Rattle.sig_terms.specs.declared.call.Call.TheVariants.{Poll}
 use Rattle.sig_terms.specs.declared.call.PollAsk.{PollAsk}
-use Rattle.sig_terms.specs.declared.fact.Fact.{Fact}
 use Rattle.sig_terms.specs.declared.fact.SettledItem.{SettledItem}
-use Rattle.sig_history.specs.Streams.{Stream, Made, is_named, jti_of, stands, token_of}
-use Rattle.sig_history.specs.Owed.{Sum, names_number, owed_by, sum_of}
+use Rattle.sig_history.specs.Streams.{Stream, Made, jti_of, stands}
+use Rattle.sig_history.specs.Owed.{Sum, names_number, owed_by}
 use Rattle.sig_history.specs.Sound.{are_owed, has_number}
 use Rattle.sig_history.specs.Whole.{IsOwnToken, IsWhole}
-use Rattle.sig_calls.specs.Polling.{has_stream, page_size, polled_answer, polled_change, polling, refused_as, refused_item, settled_item, settled_items}
-use Rattle.sig_calls.specs.Regular.{IsOwedAfter, IsRegular, acks}
+use Rattle.sig_calls.specs.Polling.{page_size, polled, polled_answer, polled_change, polling, refused_as, refused_item, settled_item, settled_items}
+use Rattle.sig_calls.specs.Regular.{acks}
 use Rattle.sig_calls.specs.Settling.{keeps}
-use Rattle.sig_calls.specs.Told.{only}
+use Rattle.sig_calls.specs.Told.{only, with_change}
 use Rattle.sig_history.proofs.StreamLemmas.{same_text}
-use Rattle.sig_calls.proofs.OwedLemmas.{Carries, IsEachOnce, carries_after, each_number_once, owns}
-use Rattle.sig_calls.proofs.SettledLemmas.{AreOf, is_clear, settled_acked, settled_fits, settled_ours}
-use Rattle.sig_calls.proofs.CreatingLemmas.{only_regular}
+use Rattle.sig_calls.proofs.FoundLemmas.{client_lawful}
+use Rattle.sig_calls.proofs.OfferedLemmas.{page_owed}
+use Rattle.sig_calls.proofs.OwedLemmas.{IsEachOnce, each_number_once, owns}
+use Rattle.sig_calls.proofs.SettledLemmas.{AreOf, IsSettlement, is_clear, settled_acked, settled_fits, settled_lawful}
+use Rattle.sig_calls.proofs.ToldLemmas.{IsLawful, only_lawful}
 
 -- ---- items of tokens that are owed
 
@@ -132,52 +134,25 @@ polled_acked sum client stream ask m whole there named counts =
     (owed_by sum stream) (owns sum stream whole))
     counts
 
--- ---- what is handed out
-
-from_map : {X Y : Type 0} (P : Y → Type 0) (f : X → Y) (xs : List X) → All P (map f xs) → All (λ x. P (f x)) xs
-from_map P f [] all = All-nil _
-from_map P f (x ∷ xs) all = All-cons (λ y. P (f y)) x xs (All-head P (f x) (map f xs) all) (from_map P f xs (All-tail P (f x) (map f xs) all))
-
--- a token that the stream of this name owes after the poll, and carries the name
-owed_after_it : (sum : Sum) (stream : List ℕ) (change : Option Fact) (t : Made)
-    → Contains (map token_of (owed_by (sum_of sum (option_to_list change)) stream)) (token_of t) → Carries stream t → IsOwedAfter sum change (token_of t)
-owed_after_it sum stream change t there named =
-    subst (λ n. Contains (map token_of (owed_by (sum_of sum (option_to_list change)) n)) (token_of t)) (sym named) there
-
--- a page is of tokens that are owed after the poll
-page_owed : (sum : Sum) (stream : List ℕ) (change : Option Fact) (size : ℕ) → IsWhole sum
-    → All (IsOwedAfter sum change) (map token_of (take size (owed_by (sum_of sum (option_to_list change)) stream)))
-page_owed sum stream change size whole =
-    let owed : List Made = owed_by (sum_of sum (option_to_list change)) stream in
-    let there : All (λ (t : Made). Contains (map token_of owed) (token_of t)) owed =
-    from_map (Contains (map token_of owed)) token_of owed (All-contains_itself (map token_of owed)) in
-    let named : All (Carries stream) owed = carries_after sum (option_to_list change) stream whole in
-    All-map (IsOwedAfter sum change) token_of (take size owed)
-    (All-take (λ (t : Made). IsOwedAfter sum change (token_of t)) size owed
-    (λ k d h. owed_after_it sum stream change (get_or owed k d) (there k d h) (named k d h)))
-
 -- ---- the call
 
-has_stands : (client name : List ℕ) (ss : List Stream) → has_stream client name ss ≡ true → stands name ss ≡ true
-has_stands client name [] h = cc h
-has_stands client name (s ∷ ss) h = elim (or_cases (bytes_eq s.client client && is_named name s) (has_stream client name ss) h) [
-  | inl this ↦ or_left _ _ (and_parts (bytes_eq s.client client) (is_named name s) this).1
-  | inr later ↦ or_right _ _ (has_stands client name ss later)
-]
-
-pub polling_regular : (rules : Rules) (sum : Sum) (client stream : List ℕ) (ask : PollAsk) (now : ℕ) → IsWhole sum
-    → IsRegular rules sum (Poll client stream ask) now (polling sum client stream ask)
-polling_regular rules sum client stream ask now whole =
+polled_settles : (sum : Sum) (client stream : List ℕ) (ask : PollAsk) (s : Stream) → stands stream sum.parts.streams ≡ true → IsWhole sum
+    → IsSettlement sum (Poll client stream ask) (polled_answer sum stream ask s) (polled_change sum stream ask)
+polled_settles sum client stream ask s here whole =
     let items : List SettledItem = settled_items ask (owed_by sum stream) in
-    elim (has_stream client stream sum.parts.streams) as (λ b. has_stream client stream sum.parts.streams ≡ b
-    → IsRegular rules sum (Poll client stream ask) now
-    (if b then record { answer = polled_answer sum stream ask; change = polled_change sum stream ask; over = false } else only answer.NotFound)) [
-      | true ↦ λ here. record {
-        fits = λ low. settled_fits sum stream items (has_stands client stream sum.parts.streams here)
-            (polled_of ask (owed_by sum stream) (each_number_once sum stream whole));
-        ours = λ proper early. settled_ours rules.issuer stream items;
-        hands = page_owed sum stream (polled_change sum stream ask) (page_size ask) whole;
-        acked = settled_acked sum (Poll client stream ask) stream items (λ m there named counts. polled_acked sum client stream ask m whole there named counts);
-      }
-      | false ↦ λ absent. only_regular rules sum (Poll client stream ask) now answer.NotFound refl
-    ] refl
+    record {
+      fits = settled_fits sum stream items here (polled_of ask (owed_by sum stream) (each_number_once sum stream whole));
+      hands = page_owed sum stream (polled_change sum stream ask) s.conf.delivery (page_size ask) whole;
+      acked = settled_acked sum (Poll client stream ask) stream items (λ m there named counts. polled_acked sum client stream ask m whole there named counts);
+    }
+
+pub polling_lawful : (rules : Rules) (sum : Sum) (client stream : List ℕ) (ask : PollAsk) (now : ℕ)
+    → IsLawful rules sum (Poll client stream ask) now (polling sum client stream ask)
+polling_lawful rules sum client stream ask now =
+    client_lawful rules sum (Poll client stream ask) now client stream (polled sum stream ask)
+    (λ s here. elim (is_push s.conf.delivery) as (λ b. IsLawful rules sum (Poll client stream ask) now
+    (if b then only answer.NotFound else with_change (polled_answer sum stream ask s) (polled_change sum stream ask))) [
+      | true ↦ only_lawful rules sum (Poll client stream ask) now answer.NotFound refl
+      | false ↦ settled_lawful rules sum (Poll client stream ask) now (polled_answer sum stream ask s) stream (settled_items ask (owed_by sum stream))
+          (polled_settles sum client stream ask s here)
+    ])

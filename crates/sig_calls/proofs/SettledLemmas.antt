@@ -1,31 +1,24 @@
--- Facts that settle tokens: they fit where they name what is owed, and make no token.
-use Rattle.std.proofs.Common.{◌≡◌, ap, ℕ, List, [], ◌∷◌, flat_map, true, ◌&&◌, ◌==◌, Option, None, IfSome, is_none, bytes_eq, refl, Bool}
-use Rattle.std.specs.Prelude.{Contains}
+-- Facts that settle tokens: they fit where they name what is owed.
+use Rattle.std.proofs.Common.{◌≡◌, ◌∙◌, ap, sym, ℕ, ◌≤◌, List, [], ◌∷◌, true, false, ◌&&◌, ◌==◌, Option, IfSome, is_none, bytes_eq, refl, Bool}
+use Rattle.std.specs.Prelude.{All, Contains}
 use Rattle.std.specs.List.{list_any}
 use Rattle.std.proofs.lemmas.Bool.{and_from, and_parts}
+use Rattle.sig_terms.specs.declared.rules.Rules.{Rules}
+use Rattle.sig_terms.specs.declared.answer.Answer.{Answer}
 use Rattle.sig_terms.specs.declared.call.Call.{Call}
 use Rattle.sig_terms.specs.declared.fact.Fact.{Fact}
 use Rattle.sig_terms.specs.declared.fact.Fact.TheVariants.{Settled}
 use Rattle.sig_terms.specs.declared.fact.SettledItem.{SettledItem}
-use Rattle.sig_history.specs.Streams.{Stream, Made, Parts, stands}
-use Rattle.sig_history.specs.Facts.{made_by, tells, token_for}
+use Rattle.sig_history.specs.Streams.{Made, Parts, stands}
 use Rattle.sig_history.specs.Owed.{Sum, owed_by}
-use Rattle.sig_history.specs.Sound.{Fits, are_owed, each_once, may_be_made}
-use Rattle.sig_calls.specs.Regular.{IsOurFact, acknowledges, acks}
+use Rattle.sig_history.specs.Sound.{Fits, are_owed, each_once, is_past}
+use Rattle.sig_history.specs.Whole.{IsWhole}
+use Rattle.sig_calls.specs.Laws.{goes_past}
+use Rattle.sig_calls.specs.Regular.{IsOurFact, IsOwedAfter, acknowledges, acks, handed_by}
 use Rattle.sig_calls.specs.Settling.{settled_fact}
-
--- ---- facts that tell no stream anything
-
-silent : (store : List ℕ) (f : Fact) → ((s : Stream) → tells f s ≡ None) → (ss : List Stream) → flat_map (token_for store f) ss ≡ []
-silent store f none [] = refl
-silent store f none (s ∷ ss) = rw (none s) (silent store f none ss)
-
--- they make no token
-pub none_made : (parts : Parts) (f : Fact) → ((s : Stream) → tells f s ≡ None) → made_by parts f ≡ []
-none_made parts f none = silent parts.store_id f none parts.streams
-
-pub nothing_may_be_made : (parts : Parts) (f : Fact) → ((s : Stream) → tells f s ≡ None) → may_be_made (made_by parts f) ≡ true
-nothing_may_be_made parts f none = ap may_be_made (none_made parts f none)
+use Rattle.sig_calls.specs.Told.{with_change}
+use Rattle.sig_calls.proofs.SilentLemmas.{none_made, nothing_may_be_made}
+use Rattle.sig_calls.proofs.ToldLemmas.{IsLawful}
 
 -- ---- items that settle
 
@@ -59,3 +52,24 @@ settled_acked sum call stream [] each = tt
 settled_acked sum call stream (i ∷ items) each = λ m there counts.
     let both = and_parts (bytes_eq stream m.stream) (list_any (is_clear m.number) (i ∷ items)) counts in
     each m there both.0 both.1
+
+-- ---- an answer with what settles
+
+settled_stays : (parts : Parts) (stream : List ℕ) (items : List SettledItem) → false ≡ goes_past parts (settled_fact stream items)
+settled_stays parts stream [] = refl
+settled_stays parts stream (i ∷ items) = sym (ap (list_any is_past) (none_made parts (Settled stream (i ∷ items)) (λ s. refl)))
+
+-- the fact fits, the answer hands out what is owed, and what counts as acknowledged was taken
+pub record IsSettlement (sum : Sum) (call : Call) (a : Answer) (change : Option Fact) : Type 0 where
+  pub fits : IfSome change (Fits sum)
+  pub hands : All (IsOwedAfter sum change) (handed_by a)
+  pub acked : CountsAcked sum call change
+
+pub settled_lawful : (rules : Rules) (sum : Sum) (call : Call) (now : ℕ) (a : Answer) (stream : List ℕ) (items : List SettledItem)
+    → (IsWhole sum → IsSettlement sum call a (settled_fact stream items)) → IsLawful rules sum call now (with_change a (settled_fact stream items))
+settled_lawful rules sum call now a stream items each = record {
+  exact = settled_stays sum.parts stream items;
+  regular = λ whole.
+      let is : IsSettlement sum call a (settled_fact stream items) = each whole in
+      record { fits = λ low. is.fits; ours = λ proper early. settled_ours rules.issuer stream items; hands = is.hands; acked = is.acked };
+}

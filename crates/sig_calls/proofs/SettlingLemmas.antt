@@ -12,9 +12,11 @@ use Rattle.sig_terms.specs.declared.fact.SettledItem.{SettledItem}
 use Rattle.sig_history.specs.Streams.{Stream, Made, stands}
 use Rattle.sig_history.specs.Owed.{Sum, owed_by, owed_in}
 use Rattle.sig_history.specs.Sound.{Fits, has_number}
-use Rattle.sig_calls.specs.Regular.{IsOwedAfter, IsRegular, is_accepted}
+use Rattle.sig_calls.specs.Regular.{IsOwedAfter, is_accepted}
 use Rattle.sig_calls.specs.Settling.{outcome_item, settled_fact, settling}
-use Rattle.sig_calls.proofs.SettledLemmas.{AreOf, is_clear, settled_acked, settled_fits, settled_ours}
+use Rattle.sig_calls.specs.Told.{with_change}
+use Rattle.sig_calls.proofs.SettledLemmas.{AreOf, is_clear, settled_acked, settled_fits, settled_lawful}
+use Rattle.sig_calls.proofs.ToldLemmas.{IsLawful}
 
 -- what stands beside no stream is nothing
 owed_here : (name : List ℕ) (n : ℕ) (ss : List Stream) (os : List (List Made)) → has_number n (owed_in name ss os) ≡ true → stands name ss ≡ true
@@ -40,31 +42,29 @@ clear_is_accepted number wanted (Reported code) h = elim (or_cases ((number == w
 clear_is_accepted number wanted Keep h = cc h
 
 -- a list of items as what the call is told
-items_regular : (rules : Rules) (sum : Sum) (stream : List ℕ) (number : ℕ) (outcome : Outcome) (now : ℕ) (items : List SettledItem)
+items_lawful : (rules : Rules) (sum : Sum) (stream : List ℕ) (number : ℕ) (outcome : Outcome) (now : ℕ) (items : List SettledItem)
     → IfSome (settled_fact stream items) (Fits sum)
     → ((wanted : ℕ) → list_any (is_clear wanted) items ≡ true → ((number == wanted) && is_accepted outcome) ≡ true)
-    → IsRegular rules sum (Settle stream number outcome) now (record { answer = answer.Settled (length items); change = settled_fact stream items; over = false })
-items_regular rules sum stream number outcome now items fits clear = record {
-  fits = λ low. fits;
-  ours = λ proper early. settled_ours rules.issuer stream items;
-  hands = All-nil (IsOwedAfter sum (settled_fact stream items));
-  acked = settled_acked sum (Settle stream number outcome) stream items (λ m there named counts.
-      let both = and_parts (number == m.number) (is_accepted outcome) (clear m.number counts) in
-      and_from _ _ (and_from _ _ named both.0) both.1);
-}
+    → IsLawful rules sum (Settle stream number outcome) now (with_change (answer.Settled (length items)) (settled_fact stream items))
+items_lawful rules sum stream number outcome now items fits clear =
+    settled_lawful rules sum (Settle stream number outcome) now (answer.Settled (length items)) stream items (λ whole. record {
+      fits = fits;
+      hands = All-nil (IsOwedAfter sum (settled_fact stream items));
+      acked = settled_acked sum (Settle stream number outcome) stream items (λ m there named counts.
+          let both = and_parts (number == m.number) (is_accepted outcome) (clear m.number counts) in
+          and_from _ _ (and_from _ _ named both.0) both.1);
+    })
 
-pub settling_regular : (rules : Rules) (sum : Sum) (stream : List ℕ) (number : ℕ) (outcome : Outcome) (now : ℕ)
-    → IsRegular rules sum (Settle stream number outcome) now (settling sum stream number outcome)
-settling_regular rules sum stream number outcome now =
+pub settling_lawful : (rules : Rules) (sum : Sum) (stream : List ℕ) (number : ℕ) (outcome : Outcome) (now : ℕ)
+    → IsLawful rules sum (Settle stream number outcome) now (settling sum stream number outcome)
+settling_lawful rules sum stream number outcome now =
     elim (has_number number (owed_by sum stream)) as (λ b. has_number number (owed_by sum stream) ≡ b
-    → IsRegular rules sum (Settle stream number outcome) now (record {
-      answer = answer.Settled (length (if b then option_to_list (outcome_item number outcome) else []));
-      change = settled_fact stream (if b then option_to_list (outcome_item number outcome) else []);
-      over = false;
-    })) [
-      | true ↦ λ owed. items_regular rules sum stream number outcome now (option_to_list (outcome_item number outcome))
+    → IsLawful rules sum (Settle stream number outcome) now
+    (with_change (answer.Settled (length (if b then option_to_list (outcome_item number outcome) else [])))
+    (settled_fact stream (if b then option_to_list (outcome_item number outcome) else [])))) [
+      | true ↦ λ owed. items_lawful rules sum stream number outcome now (option_to_list (outcome_item number outcome))
           (settled_fits sum stream (option_to_list (outcome_item number outcome)) (owed_here stream number sum.parts.streams sum.owed owed)
           (item_of sum stream number outcome owed))
           (λ wanted h. clear_is_accepted number wanted outcome h)
-      | false ↦ λ absent. items_regular rules sum stream number outcome now [] tt (λ wanted none. cc none)
+      | false ↦ λ absent. items_lawful rules sum stream number outcome now [] tt (λ wanted none. cc none)
     ] refl
