@@ -8,4 +8,4 @@ pub mod UriTexts
 pub mod StreamNews
 pub mod KeptLemmas
 pub mod NameLemmas
-pub mod StatusLemmas
+pub mod OwedStepLemmas

@@ -1,13 +1,15 @@
 -- What holds of histories, whatever they say.
-use Rattle.std.specs.Prelude.{◌≡◌, ℕ, List, [], ◌∷◌, ◌++◌, Bool, ◌&&◌, Option, bytes_eq, map, filter, flat_map, true, false, if◌then◌else◌}
+use Rattle.std.specs.Prelude.{◌≡◌, ℕ, List, [], ◌∷◌, ◌++◌, Bool, not, ◌&&◌, Option, bytes_eq, map, filter, flat_map, true, false, if◌then◌else◌}
 use Rattle.std.specs.List.{IsDistinct}
 use Rattle.std.specs.Option.{option_map_or}
+use Rattle.sig_event.specs.declared.news.News.{News}
 use Rattle.sig_event.specs.declared.status.Status.{Status}
 use Rattle.sig_terms.specs.declared.fact.Fact.{Fact}
 use Rattle.sig_terms.specs.declared.fact.Fact.TheVariants.{Created, Configured, StatusSet, Listed, Unlisted, Deleted, Published, Settled, Asked}
-use Rattle.sig_history.specs.Streams.{Stream, Made, is_disabled, next_token, stands}
-use Rattle.sig_history.specs.Facts.{tokens_of, updated_news}
-use Rattle.sig_history.specs.Owed.{Sum, sum_of, empty_sum, owed_by, made_along, stream_named, token_in, is_left}
+use Rattle.sig_terms.specs.declared.fact.SettledItem.{SettledItem}
+use Rattle.sig_history.specs.Streams.{Stream, Made, is_disabled, is_due, next_token, stands}
+use Rattle.sig_history.specs.Facts.{tokens_of, updated_news, verified_news}
+use Rattle.sig_history.specs.Owed.{Sum, sum_of, empty_sum, names_number, owed_by, made_along, stream_named, token_in, is_left}
 use Rattle.sig_history.specs.Sound.{Fits, is_sound}
 use Rattle.sig_history.specs.Whole.{AreSorted, IsRising, IsWhole}
 
@@ -62,14 +64,40 @@ names_made facts = flat_map name_made facts
 abbrev pub NamesAreUsedOnce : Type 0
 NamesAreUsedOnce = (base : Sum) (facts : List Fact) → is_sound base facts ≡ true → IsDistinct bytes_eq (names_made facts)
 
--- ---- what a stream owes after its status is set, and after it is deleted
+-- ---- what a stream owes after each fact that makes tokens or takes them off
+
+-- the next token of the stream of a name, which tells it news
+abbrev pub token_to : Sum → List ℕ → News → ℕ → List Made
+token_to sum stream news time =
+    option_map_or (λ (s : Stream). next_token sum.parts.store_id news time s ∷ []) (stream_named stream sum.parts.streams) []
+
+-- where news are due on a stream that stands, it owes what it owed before and then the token that tells them; any other owes
+-- what it owed before
+abbrev pub PublishingAddsWhereDue : Type 0
+PublishingAddsWhereDue =
+    (sum : Sum) (id : List ℕ) (news : News) (time : ℕ) (stream : List ℕ) → IsWhole sum → stands stream sum.parts.streams ≡ true
+    → owed_by (sum_of sum (Published id news time ∷ [])) stream
+    ≡ owed_by sum stream
+    ++ (if option_map_or (is_due news) (stream_named stream sum.parts.streams) false then token_to sum stream news time else [])
+
+-- a stream of which a verification was asked owes what it owed before, and then the verification
+abbrev pub AskingAddsAVerification : Type 0
+AskingAddsAVerification =
+    (sum : Sum) (stream : List ℕ) (state : Option (List ℕ)) (time : ℕ) → IsWhole sum → Fits sum (Asked stream state time)
+    → owed_by (sum_of sum (Asked stream state time ∷ [])) stream
+    ≡ owed_by sum stream ++ token_to sum stream (verified_news stream state) time
+
+-- a stream of which tokens were settled owes the others
+abbrev pub SettlingTakesOffTheNamed : Type 0
+SettlingTakesOffTheNamed =
+    (sum : Sum) (stream : List ℕ) (items : List SettledItem) → IsWhole sum → Fits sum (Settled stream items)
+    → owed_by (sum_of sum (Settled stream items ∷ [])) stream
+    ≡ filter (λ (t : Made). not (names_number t.number items)) (owed_by sum stream)
 
 -- the token that tells the stream of a name its new status, where the operator set it
 abbrev pub notice_for : Sum → List ℕ → Status → Option (List ℕ) → Bool → ℕ → List Made
 notice_for sum stream status reason operator time =
-    if operator then option_map_or (λ (s : Stream). next_token sum.parts.store_id (updated_news stream status reason) time s ∷ [])
-    (stream_named stream sum.parts.streams) []
-    else []
+    if operator then token_to sum stream (updated_news stream status reason) time else []
 
 -- a stream that is paused or enabled owes what it owed before, and then the notice
 abbrev pub PausingKeepsWhatIsOwed : Type 0

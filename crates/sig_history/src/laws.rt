@@ -1,6 +1,6 @@
 //! Laws over the definitions: each function's contract is the law, and nothing calls it.
 
-ghost use Rattle.sig_history.specs.Laws.{DeletingLeavesNothing, DisablingLeavesItsOwnNotice, HistoriesJoin, NamesAreUsedOnce, OwedNumbersRise, OwesWhatIsLeft, PausingKeepsWhatIsOwed, SoundHistoriesAreWhole, SoundHistoriesJoin, StreamsAreSorted};
+ghost use Rattle.sig_history.specs.Laws.{AskingAddsAVerification, DeletingLeavesNothing, DisablingLeavesItsOwnNotice, HistoriesJoin, NamesAreUsedOnce, OwedNumbersRise, OwesWhatIsLeft, PausingKeepsWhatIsOwed, PublishingAddsWhereDue, SettlingTakesOffTheNamed, SoundHistoriesAreWhole, SoundHistoriesJoin, StreamsAreSorted};
 
 /// A history may be taken up where an earlier part of it ended: the sum of both parts is that of the second over that of
 /// the first, whatever the base. So a checkpoint loses nothing.
@@ -39,6 +39,24 @@ pub fn owed_numbers_rise()
 /// deletes between: the number of a stream that was deleted is never given again.
 pub fn names_are_used_once()
     ensures { NamesAreUsedOnce }
+{}
+
+/// Where a publication's news are due on a stream, it owes what it owed before and then the token that tells them; a stream
+/// on which they aren't due owes what it owed before (Shared Signals Framework 1.0, section 7).
+pub fn publishing_adds_where_due()
+    ensures { PublishingAddsWhereDue }
+{}
+
+/// A stream of which a verification was asked owes what it owed before, and then the verification with its state (Shared
+/// Signals Framework 1.0, section 8.1.4).
+pub fn asking_adds_a_verification()
+    ensures { AskingAddsAVerification }
+{}
+
+/// A stream of which tokens were settled owes the others, in the order that they had (RFC 8935, section 2; RFC 8936,
+/// section 2).
+pub fn settling_takes_off_the_named()
+    ensures { SettlingTakesOffTheNamed }
 {}
 
 /// A stream whose status is set, and isn't disabled by it, owes what it owed before, and then the token that tells the new

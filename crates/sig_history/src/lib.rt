@@ -6,8 +6,9 @@
 //! `specs/Owed` says what streams owe, found by filtering all tokens ever made; `specs/Sound` says which facts fit.
 //!
 //! Promised by `laws`: histories join; a stream owes what no later fact takes off; sound histories leave streams in order,
-//! each once, with owed numbers that rise; no name is used twice; pausing keeps what is owed, disabling leaves its own notice
-//! alone, and deleting leaves nothing. `sig_isolation` says what keeps clients apart.
+//! each once, with owed numbers that rise; no name is used twice; publications and verifications add their token, settling
+//! takes off what it names, pausing keeps what is owed, disabling leaves its own notice alone, and deleting leaves nothing.
+//! `sig_isolation` says what keeps clients apart.
 #![tactic(auto)]
 
 pub mod laws;

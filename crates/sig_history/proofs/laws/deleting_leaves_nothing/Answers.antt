@@ -1,4 +1,4 @@
-use Rattle.sig_history.proofs.StatusLemmas.{deleting_leaves}
+use Rattle.sig_history.proofs.OwedStepLemmas.{deleting_leaves}
 use Rattle.sig_history.proofs.laws.deleting_leaves_nothing.Goals as goal
 
 pub returns : goal.returns
