@@ -1,6 +1,8 @@
+pub mod FoundLemmas
+pub mod OfferedLemmas
 pub mod PageLemmas
-pub mod FoundStream
 pub mod PolledLemmas
-pub mod PublishingLemmas
+pub mod HandingLemmas
 pub mod SettlingLemmas
+pub mod MadeLemmas
 pub mod VerdictLemmas

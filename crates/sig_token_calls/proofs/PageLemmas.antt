@@ -1,5 +1,5 @@
 -- A page of tokens.
-use Rattle.std.proofs.Common.{◌≡◌, ◌∙◌, ap, sym, ℕ, zero, suc, ◌+◌, ◌-◌, ◌==◌, ◌<◌, ◌≤◌, List, [], ◌∷◌, ◌++◌, length, map, take, drop, get_or, true, false, not, nat_lt, if◌then◌else◌, refl, append-nil, append_assoc, arith, add-one}
+use Rattle.std.proofs.Common.{◌≡◌, ◌∙◌, ap, sym, ℕ, zero, suc, ◌+◌, ◌-◌, ◌==◌, ◌<◌, ◌≤◌, List, [], ◌∷◌, ◌++◌, length, map, filter, take, drop, get_or, Bool, true, false, nat_lt, if◌then◌else◌, refl, append-nil, append_assoc, arith, add-one}
 use Rattle.std.specs.Option.{option_to_list}
 use Rattle.std.specs.Prelude.{Option, None, Some}
 use Rattle.std.specs.List.{filter_map, cons_option}
@@ -8,19 +8,20 @@ use Rattle.std.proofs.lemmas.Bool.{ltb-true, lt-ltb, eqb-true}
 use Rattle.std.proofs.lemmas.List.{take_more}
 use Rattle.std.proofs.lemmas.List.Elements.{filter_map-append}
 use Rattle.sig_ledger.specs.declared.debt.Debt.{Debt}
-use Rattle.sig_terms.specs.declared.fact.SettledItem.{SettledItem}
 use Rattle.sig_terms.specs.declared.token.Token.{Token}
-use Rattle.sig_terms.specs.declared.answer.Answer.{Answer}
-use Rattle.sig_terms.specs.declared.answer.Answer.TheVariants.{Sets}
+use Rattle.sig_terms.specs.declared.want.Delivery.{Delivery}
 use Rattle.sig_history.specs.Streams.{Made, token_of}
-use Rattle.sig_history.specs.Owed.{names_number}
-use Rattle.sig_ledger.specs.Books.{left_of}
-use Rattle.sig_calls.specs.Polling.{page_of}
+use Rattle.sig_token_calls.specs.declared.offering.Page.{Page}
+use Rattle.sig_token_calls.specs.Offering.{page_on}
 
 -- the page when these tokens are on it already and there is room for so many more
-abbrev pub page_step : ℕ → List Token → List Made → Answer
-page_step room tokens [] = Sets tokens false
-page_step room tokens (t ∷ ts) = if room == 0 then Sets tokens true else page_step (room - 1) (tokens ++ token_of t ∷ []) ts
+abbrev pub page_step : Delivery → ℕ → List Token → List Made → Page
+page_step delivery room tokens [] = record { tokens = tokens; more = false }
+page_step delivery room tokens (t ∷ ts) =
+    if room == 0 then record { tokens = tokens; more = true } else page_step delivery (room - 1) (tokens ++ token_of delivery t ∷ []) ts
+
+abbrev pub Sets : List Token → Bool → Page
+Sets tokens more = record { tokens = tokens; more = more }
 
 pub not_below : (a b : ℕ) → b ≤ a → nat_lt a b ≡ false
 not_below a b le =
@@ -43,54 +44,60 @@ some_room room above =
       | false ↦ λ none. refl
     ] (eqb-true room 0)
 
-pub page_steps : (room : ℕ) (tokens : List Token) (ts : List Made) → page_step room tokens ts ≡ Sets (tokens ++ map token_of (take room ts)) (nat_lt room (length ts))
-page_steps zero tokens [] = ap (λ l. Sets l false) (sym (append-nil tokens))
-page_steps (suc n) tokens [] = ap (λ l. Sets l false) (sym (append-nil tokens)) ∙ ap (Sets (tokens ++ [])) (sym (not_below (suc n) 0 (omega arith)))
-page_steps zero tokens (t ∷ ts) = ap (λ l. Sets l true) (sym (append-nil tokens)) ∙ ap (Sets (tokens ++ [])) (sym (lt-ltb 0 (length (t ∷ ts)) (omega arith)))
-page_steps (suc n) tokens (t ∷ ts) =
+page_steps : (delivery : Delivery) (room : ℕ) (tokens : List Token) (ts : List Made)
+    → page_step delivery room tokens ts ≡ Sets (tokens ++ map (token_of delivery) (take room ts)) (nat_lt room (length ts))
+page_steps delivery zero tokens [] = ap (λ l. Sets l false) (sym (append-nil tokens))
+page_steps delivery (suc n) tokens [] =
+    ap (λ l. Sets l false) (sym (append-nil tokens)) ∙ ap (Sets (tokens ++ [])) (sym (not_below (suc n) 0 (omega arith)))
+page_steps delivery zero tokens (t ∷ ts) =
+    ap (λ l. Sets l true) (sym (append-nil tokens)) ∙ ap (Sets (tokens ++ [])) (sym (lt-ltb 0 (length (t ∷ ts)) (omega arith)))
+page_steps delivery (suc n) tokens (t ∷ ts) =
     let less : suc n - 1 ≡ n = omega arith in
-    ap (λ b. if b then Sets tokens true else page_step (suc n - 1) (tokens ++ token_of t ∷ []) ts) (some_room (suc n) (omega arith))
-    ∙ ap (λ k. page_step k (tokens ++ token_of t ∷ []) ts) less
-    ∙ page_steps n (tokens ++ token_of t ∷ []) ts
-    ∙ ap (λ l. Sets l (nat_lt n (length ts))) (append_assoc tokens (token_of t ∷ []) (map token_of (take n ts)))
-    ∙ ap (Sets (tokens ++ token_of t ∷ map token_of (take n ts))) (same_below n (length ts) (suc n) (length (t ∷ ts)) (λ h. omega arith) (λ h. omega arith))
+    ap (λ b. if b then Sets tokens true else page_step delivery (suc n - 1) (tokens ++ token_of delivery t ∷ []) ts) (some_room (suc n) (omega arith))
+    ∙ ap (λ k. page_step delivery k (tokens ++ token_of delivery t ∷ []) ts) less
+    ∙ page_steps delivery n (tokens ++ token_of delivery t ∷ []) ts
+    ∙ ap (λ l. Sets l (nat_lt n (length ts))) (append_assoc tokens (token_of delivery t ∷ []) (map (token_of delivery) (take n ts)))
+    ∙ ap (Sets (tokens ++ token_of delivery t ∷ map (token_of delivery) (take n ts)))
+    (same_below n (length ts) (suc n) (length (t ∷ ts)) (λ h. omega arith) (λ h. omega arith))
 
-pub page_is : (size : ℕ) (ts : List Made) → page_step size [] ts ≡ page_of size ts
-page_is size ts = page_steps size [] ts
+pub page_is : (delivery : Delivery) (size : ℕ) (ts : List Made) → page_step delivery size [] ts ≡ page_on delivery size ts
+page_is delivery size ts = page_steps delivery size [] ts
 
 -- ---- the next token that is owed
 
 parts_at : (ds : List Debt) (i : ℕ) (d : Debt) → i < length ds → drop i ds ≡ get_or ds i d ∷ drop (i + 1) ds
 parts_at ds i d within = drop-cons ds i d within ∙ ap (λ k. get_or ds i d ∷ drop k ds) (sym (add-one i))
 
-pub left_named : (items : List SettledItem) (ds : List Debt) (i : ℕ) (d : Debt) → i < length ds → names_number (get_or ds i d).number items ≡ true
-    → left_of items (drop i ds) ≡ left_of items (drop (i + 1) ds)
-left_named items ds i d within named =
-    ap (left_of items) (parts_at ds i d within)
-    ∙ ap (λ b. if not b then get_or ds i d ∷ left_of items (drop (i + 1) ds) else left_of items (drop (i + 1) ds)) named
+-- one that isn't open is passed over
+pub open_passed : (p : Debt → Bool) (ds : List Debt) (i : ℕ) (d : Debt) → i < length ds → p (get_or ds i d) ≡ false
+    → filter p (drop i ds) ≡ filter p (drop (i + 1) ds)
+open_passed p ds i d within closed =
+    ap (filter p) (parts_at ds i d within)
+    ∙ ap (λ b. if b then get_or ds i d ∷ filter p (drop (i + 1) ds) else filter p (drop (i + 1) ds)) closed
 
-pub left_next : (items : List SettledItem) (ds : List Debt) (i : ℕ) (d : Debt) → i < length ds → names_number (get_or ds i d).number items ≡ false
-    → left_of items (drop i ds) ≡ get_or ds i d ∷ left_of items (drop (i + 1) ds)
-left_next items ds i d within other =
-    ap (left_of items) (parts_at ds i d within)
-    ∙ ap (λ b. if not b then get_or ds i d ∷ left_of items (drop (i + 1) ds) else left_of items (drop (i + 1) ds)) other
+pub open_next : (p : Debt → Bool) (ds : List Debt) (i : ℕ) (d : Debt) → i < length ds → p (get_or ds i d) ≡ true
+    → filter p (drop i ds) ≡ get_or ds i d ∷ filter p (drop (i + 1) ds)
+open_next p ds i d within open =
+    ap (filter p) (parts_at ds i d within)
+    ∙ ap (λ b. if b then get_or ds i d ∷ filter p (drop (i + 1) ds) else filter p (drop (i + 1) ds)) open
 
 -- a full page ends before it
-pub page_full : (room : ℕ) (tokens : List Token) (f : Debt → Made) (items : List SettledItem) (ds : List Debt) (i : ℕ) (d : Debt) → i < length ds
-    → names_number (get_or ds i d).number items ≡ false → room ≡ 0
-    → page_step room tokens (map f (left_of items (drop i ds))) ≡ Sets tokens true
-page_full room tokens f items ds i d within other none =
-    ap (λ l. page_step room tokens (map f l)) (left_next items ds i d within other)
-    ∙ ap (λ k. page_step k tokens (f (get_or ds i d) ∷ map f (left_of items (drop (i + 1) ds)))) none
+pub page_full : (delivery : Delivery) (room : ℕ) (tokens : List Token) (f : Debt → Made) (p : Debt → Bool) (ds : List Debt) (i : ℕ) (d : Debt) → i < length ds
+    → p (get_or ds i d) ≡ true → room ≡ 0
+    → page_step delivery room tokens (map f (filter p (drop i ds))) ≡ Sets tokens true
+page_full delivery room tokens f p ds i d within open none =
+    ap (λ l. page_step delivery room tokens (map f l)) (open_next p ds i d within open)
+    ∙ ap (λ k. page_step delivery k tokens (f (get_or ds i d) ∷ map f (filter p (drop (i + 1) ds)))) none
 
 -- it is put on one that has room
-pub page_more : (room : ℕ) (tokens : List Token) (f : Debt → Made) (items : List SettledItem) (ds : List Debt) (i : ℕ) (d : Debt) → i < length ds
-    → names_number (get_or ds i d).number items ≡ false → (room == 0) ≡ false
-    → page_step room tokens (map f (left_of items (drop i ds)))
-    ≡ page_step (room - 1) (tokens ++ token_of (f (get_or ds i d)) ∷ []) (map f (left_of items (drop (i + 1) ds)))
-page_more room tokens f items ds i d within other some =
-    ap (λ l. page_step room tokens (map f l)) (left_next items ds i d within other)
-    ∙ ap (λ b. if b then Sets tokens true else page_step (room - 1) (tokens ++ token_of (f (get_or ds i d)) ∷ []) (map f (left_of items (drop (i + 1) ds)))) some
+pub page_more : (delivery : Delivery) (room : ℕ) (tokens : List Token) (f : Debt → Made) (p : Debt → Bool) (ds : List Debt) (i : ℕ) (d : Debt) → i < length ds
+    → p (get_or ds i d) ≡ true → (room == 0) ≡ false
+    → page_step delivery room tokens (map f (filter p (drop i ds)))
+    ≡ page_step delivery (room - 1) (tokens ++ token_of delivery (f (get_or ds i d)) ∷ []) (map f (filter p (drop (i + 1) ds)))
+page_more delivery room tokens f p ds i d within open some =
+    ap (λ l. page_step delivery room tokens (map f l)) (open_next p ds i d within open)
+    ∙ ap (λ b. if b then Sets tokens true
+    else page_step delivery (room - 1) (tokens ++ token_of delivery (f (get_or ds i d)) ∷ []) (map f (filter p (drop (i + 1) ds)))) some
 
 -- ---- items that there are
 

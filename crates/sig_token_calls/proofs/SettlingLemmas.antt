@@ -11,10 +11,8 @@ use Rattle.sig_calls.specs.Settling.{outcome_item, settled_fact, settled_one, se
 use Rattle.sig_calls.specs.Told.{outcome}
 use Rattle.sig_ledger.specs.declared.debt.Debt.{Debt}
 use Rattle.sig_ledger.specs.Books.{Books, Owing, made_of, owing_named, sum_in}
-use Rattle.sig_ledger.specs.Steps.{reply_in}
 use Rattle.sig_ledger.proofs.FoundLemmas.{found_owed, missing_owed}
-use Rattle.sig_token_calls.specs.Steps.{items_for, settled_ready}
-use Rattle.sig_token_calls.proofs.PolledLemmas.{answered, ready_fact}
+use Rattle.sig_token_calls.specs.Replies.{items_for}
 
 has_debt : (sid : List ℕ) (published : List Publication) (s : Stream) (number : ℕ) (ds : List Debt)
     → has_number number (map (made_of sid published s) ds) ≡ list_any (λ (d : Debt). d.number == number) ds
@@ -29,9 +27,10 @@ settled_is b stream number how (Some o) is =
     ap (λ (ts : List Made). if has_number number ts then option_to_list (outcome_item number how) else []) (found_owed b stream o is)
     ∙ ap (λ t. if t then option_to_list (outcome_item number how) else []) (has_debt b.store_id b.published o.stream number o.owed)
 
--- the step of these items is the answer
-pub settled_reply : (b : Books) (stream : List ℕ) (number : ℕ) (how : Outcome) (items : List SettledItem) → settled_one (sum_in b) stream number how ≡ items
-    → Ok (reply_in (record { answer = answer.Settled (length items); change = settled_ready stream items })) ≡ outcome (settling (sum_in b) stream number how)
+-- these items are answered
+pub settled_reply : (b : Books) (stream : List ℕ) (number : ℕ) (how : Outcome) (items : List SettledItem)
+    → items ≡ items_for (owing_named stream b.owings) number how
+    → outcome (settling (sum_in b) stream number how) ≡ Ok (record { answer = answer.Settled (length items); change = settled_fact stream items })
 settled_reply b stream number how items is =
-    ap (λ f. Ok (answered (answer.Settled (length items)) f)) (ready_fact stream items)
-    ∙ ap (λ l. Ok (answered (answer.Settled (length l)) (settled_fact stream l))) (sym is)
+    ap (λ l. Ok (record { answer = answer.Settled (length l); change = settled_fact stream l }))
+    (settled_is b stream number how (owing_named stream b.owings) refl ∙ sym is)

@@ -1,3 +1,4 @@
-pub mod Steps
-pub mod Making
+pub mod Offering
+pub mod Replies
+pub mod Handing
 pub mod Verdicts

@@ -1,20 +1,19 @@
 //! How the answer to a token that was brought to its receiver is taken (RFC 8935, section 2).
 
-ghost use Rattle.std.specs.Prelude.{◌≡◌, ◌==◌, IfOk, IfSome, Some, length};
+ghost use Rattle.std.specs.Prelude.{◌≡◌, ◌==◌, IfOk, IfSome, Some};
 ghost use Rattle.std.specs.List.{list_any};
 ghost use Rattle.std.specs.Option.{option_to_list};
 ghost use Rattle.sig_json.specs.Answers.{Answers, result_map};
 ghost use Rattle.sig_calls.specs.Settling as table;
 ghost use Rattle.sig_calls.specs.Told as told;
-ghost use Rattle.sig_terms.specs.declared.answer.Answer.TheVariants as answer;
 ghost use Rattle.sig_ledger.specs.Books.{owing_named, sum_in};
 ghost use Rattle.sig_ledger.specs.Room.{HasRoom};
 ghost use Rattle.sig_ledger.specs.declared.debt.Debt.{Debt};
 ghost use Rattle.sig_ledger.specs.Steps.{reply_in};
-ghost use Rattle.sig_token_calls.specs.Steps.{items_for, settled_ready};
+ghost use Rattle.sig_token_calls.specs.Replies.{items_for};
 
 use sig_json::{Items, Memory, Text};
-use sig_ledger::{Account, Debt, Ledger, Prepared, Spare, Step};
+use sig_ledger::{Account, Debt, Ledger, Step};
 use sig_terms::{Answer, Fact, Outcome, PrepareFault, SettledItem};
 use std::alloc::Global;
 
@@ -93,43 +92,33 @@ pub(crate) fn settled_change(
     alloc: Global,
     stream: &Text,
     items: Vec<SettledItem>,
-) -> Result<Option<Prepared>, Memory>
-    ensures { IfOk result (λ p. p ≡ settled_ready stream.now items.items) }
+) -> Result<Option<Fact>, Memory>
+    ensures { IfOk result (λ f. f ≡ table.settled_fact stream.now items.items) }
 {
     if items.is_empty() {
         return Ok(None);
     }
-    let fact = Fact::Settled {
+    Ok(Some(Fact::Settled {
         stream: stream.copy(alloc)?,
         items: Items::of(items),
-    };
-    Ok(Some(Prepared::of(fact, Spare::none(alloc))))
-}
-
-fn settled_step(alloc: Global, stream: &Text, items: Vec<SettledItem>) -> Result<Step, Memory>
-    ensures { IfOk result (λ step. step ≡ record { answer = answer.Settled (length items.items); change = settled_ready stream.now items.items }) }
-{
-    let count = items.len() as u64;
-    let change = settled_change(alloc, stream, items)?;
-    Ok(Step {
-        answer: Answer::Settled { count },
-        change,
-    })
+    }))
 }
 
 /// How an answer to a token is taken (RFC 8935, section 2).
 pub fn settle(
-    ledger: &Ledger,
+    ledger: &mut Ledger,
     stream: &Text,
     number: u64,
     outcome: &Outcome,
 ) -> Result<Step, PrepareFault>
+    ensures keeps { ledger.new.books ≡ ledger.old.books }
     ensures answers { Answers PrepareFault.Memory (result_map reply_in result)
-        (told.outcome (table.settling (sum_in ledger.now.books) stream.now number outcome.now)) }
-    ensures room { IfOk result (λ step. IfSome step.change (HasRoom (sum_in ledger.now.books).parts ledger.now.room)) }
+        (told.outcome (table.settling (sum_in ledger.old.books) stream.now number outcome.now)) }
+    ensures room { IfOk result (λ step. IfSome step.change (HasRoom (sum_in ledger.new.books).parts ledger.new.room)) }
 {
-    let alloc = ledger.alloc();
     let items = settled_on(ledger, stream, number, outcome)?;
-    let step = settled_step(alloc, stream, items)?;
+    let count = items.len() as u64;
+    let change = settled_change(ledger.alloc(), stream, items)?;
+    let step = ledger.step(Answer::Settled { count }, change)?;
     Ok(step)
 }
