@@ -2,14 +2,16 @@
 """Makes the cases of crates/sig_runs: whole runs of the program, and what each prints.
 
 `make_runs.py cases` prints crates/sig_runs/stdin, and `make_runs.py answers` prints crates/sig_runs/stdout. Each text here
-was worked out by hand from docs/FORMATS.md, but for the scripts of `script_cases.py`, which a model of another hand answers,
-and the tokens are signed by Python's own hmac. How often the input is asked
-follows from the pieces alone: up to the piece with the end of the line that stops the run, or once more at the end of the
-input, and a second time after a last line that has no end. Nothing here comes from the program under test.
+was worked out by hand from docs/FORMATS.md, but for the scripts of `script_cases.py` and `walk_scripts.py`, which a model of
+another hand answers; the tokens are signed by Python's own hmac. How often the input is asked follows from the pieces alone:
+up to the piece with the end of the line that stops the run, or once more at the end of the input, and a second time after a
+last line that has no end. Nothing here comes from the program under test.
 """
 import sys
 
+import replay_model
 import script_cases
+import walk_scripts
 from sign_fold import TESTS
 
 TOKENS = dict(TESTS)
@@ -313,6 +315,10 @@ def scripts():
     for group in script_cases.GROUPS:
         why, lines, status, text = script_cases.script(group)
         case(why, ["replay"], lines, status, text)
+    for seed, count, most in [(1, 400, 3), (2, 600, 6), (3, 900, 14)]:
+        lines = walk_scripts.script(seed, count, most)
+        printed, status = replay_model.replay([line.encode() for line in lines])
+        case(f"{count} lines that are drawn.", ["replay"], lines, status, "".join(line + "\n" for line in printed))
 
 
 def main():

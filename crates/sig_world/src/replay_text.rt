@@ -73,7 +73,7 @@ pub(crate) fn add_verdict(
 ) -> Result<(), Memory>
     ensures { OnOk result (text.new ≡ text.old ++ numbered number (verdict_word allow)) }
 {
-    add_line(alloc, text, number, if allow { "allow" } else { "deny" })
+    add_line(alloc, text, number, verdict_for(allow))
 }
 
 /// Adds what the receiver's answer prints, after so many answers.
@@ -206,13 +206,23 @@ fn add_state(
 ) -> Result<(), Memory>
     ensures { OnOk result (text.new ≡ text.old ++ numbered number (codes "state " ++ stream.now ++ codes " " ++ status_text status ++ notice_text token)) }
 {
-    let stream = stream.as_str();
-    let status = status.as_str();
-    let line = match token {
+    let line = state_line(alloc, number, stream.as_str(), status.as_str(), token)?;
+    text.add(line.as_bytes())
+}
+
+fn state_line(
+    alloc: Global,
+    number: u64,
+    stream: &str,
+    status: &str,
+    token: Option<u64>,
+) -> Result<String, Memory>
+    ensures { IfOk result (λ line. string_bytes line ≡ numbered number (codes "state " ++ stream.now ++ codes " " ++ status.now ++ notice_text token)) }
+{
+    Ok(match token {
         None => format!(in alloc; "{number} state {stream} {status}\n")?,
         Some(made) => format!(in alloc; "{number} state {stream} {status} token {made}\n")?,
-    };
-    text.add(line.as_bytes())
+    })
 }
 
 fn add_sets(
@@ -251,6 +261,12 @@ fn add_handed(
         tokens.as_slice().len() as u64,
     )?;
     add_messages(alloc, text, number, before + 1, tokens.as_slice())
+}
+
+fn verdict_for(allow: bool) -> &'static str
+    ensures { result.now ≡ verdict_word allow }
+{
+    if allow { "allow" } else { "deny" }
 }
 
 fn word_for(more: bool) -> &'static str
