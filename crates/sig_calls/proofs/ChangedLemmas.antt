@@ -1,11 +1,12 @@
 -- What a stream owes once a poll has settled: what it owed, without what was settled.
 use Rattle.std.proofs.Common.{option_to_list, ◌≡◌, ◌∙◌, ap, ℕ, List, [], ◌∷◌, ◌++◌, map, filter, true, false, not, ◌&&◌, Option, Some, None, refl, append-nil, Bool}
+use Rattle.std.specs.Option.{option_map_or}
 use Rattle.sig_terms.specs.declared.fact.Fact.{Fact}
 use Rattle.sig_terms.specs.declared.fact.Fact.TheVariants.{Settled}
 use Rattle.sig_terms.specs.declared.fact.SettledItem.{SettledItem}
 use Rattle.sig_history.specs.Streams.{Stream, Made, Parts, stands}
 use Rattle.sig_history.specs.Facts.{parts_after, stream_after}
-use Rattle.sig_history.specs.Owed.{Sum, is_of, owed_after, owed_by, sum_of, survives, takes_off}
+use Rattle.sig_history.specs.Owed.{Sum, is_of, offered_by, offers, owed_after, owed_by, stream_named, sum_of, survives, takes_off}
 use Rattle.sig_calls.specs.Settling.{settled_fact}
 use Rattle.sig_history.proofs.JoinLemmas.{filter_same, found}
 use Rattle.sig_calls.proofs.SilentLemmas.{none_made}
@@ -52,3 +53,17 @@ pub left_owed : (sum : Sum) (name : List ℕ) (items : List SettledItem) → sta
     → owed_by (sum_of sum (option_to_list (settled_fact name items))) name ≡ left_by name (settled_fact name items) (owed_by sum name)
 left_owed sum name [] here = same_owed sum name here
 left_owed sum name (i ∷ items) here = settled_owed sum name (i ∷ items) here
+
+-- ---- what it offers
+
+-- what a stream offers, where it is there, of what it owes
+abbrev pub offered_from : Option Stream → List Made → List Made
+offered_from o owed = option_map_or (λ (s : Stream). filter (offers s.status) owed) o []
+
+pub left_offered : (sum : Sum) (name : List ℕ) (items : List SettledItem) → stands name sum.parts.streams ≡ true
+    → offered_by (sum_of sum (option_to_list (settled_fact name items))) name
+    ≡ offered_from (stream_named name sum.parts.streams) (left_by name (settled_fact name items) (owed_by sum name))
+left_offered sum name [] here = ap (offered_from (stream_named name sum.parts.streams)) (left_owed sum name [] here)
+left_offered sum name (i ∷ items) here =
+    ap (λ ss. offered_from (stream_named name ss) (owed_by (sum_of sum (Settled name (i ∷ items) ∷ [])) name)) (streams_same name (i ∷ items) sum.parts.streams)
+    ∙ ap (offered_from (stream_named name sum.parts.streams)) (left_owed sum name (i ∷ items) here)

@@ -5,41 +5,17 @@ use Rattle.std.proofs.lemmas.List.Elements.{filter-append}
 use Rattle.sig_event.specs.declared.news.News.{News}
 use Rattle.sig_terms.specs.declared.configuration.StreamConf.{StreamConf}
 use Rattle.sig_terms.specs.declared.fact.Fact.{Fact}
-use Rattle.sig_terms.specs.declared.fact.Fact.TheVariants.{Created, Published, Settled}
+use Rattle.sig_terms.specs.declared.fact.Fact.TheVariants.{Created, Published}
 use Rattle.sig_history.specs.Streams.{Stream, Count, Made, Parts, client_in, count_one, created_by, is_named, put_in_order, stands}
-use Rattle.sig_history.specs.Facts.{made_by, parts_after, parts_of, stream_after, tells, time_of, token_by, token_for}
-use Rattle.sig_history.specs.Owed.{Sum, empty_sum, is_of, names_number, owed_after, owed_by, owed_of, sum_of, survives, takes_off}
+use Rattle.sig_history.specs.Facts.{made_by, new_stream, parts_after, parts_of, removed_by, stream_after, tells, time_of, token_by, token_for, without}
+use Rattle.sig_history.specs.Owed.{Sum, empty_sum, is_of, owed_after, owed_by, owed_of, sum_of, survives, takes_off}
 use Rattle.sig_isolation.specs.Isolation.{Part, PartsAreIsolated, concerns, is_of_client}
 use Rattle.sig_history.proofs.JoinLemmas.{filter_same, found, gone}
 use Rattle.sig_history.proofs.StreamLemmas.{after_same, one_counted, same_text, text_itself}
 use Rattle.sig_isolation.proofs.OrderLemmas.{AreOrderly, orderly_after, own, put_other, put_own}
+use Rattle.sig_isolation.proofs.OthersLemmas.{name_of_own, none_own, not_named, own_without, stands_own, streams_left, takes_none, tells_left, without_left}
 
--- ---- names of a client's streams
-
--- a stream of another client has no such name
-not_named : (client name : List ℕ) (s : Stream) → client_in name ≡ client → is_of_client client s ≡ false → is_named name s ≡ false
-not_named client name s of other = false_from_ne_true (is_named name s) (λ is.
-    true≢false (sym (text_itself (client_in s.conf.stream) client (ap client_in (same_text s.conf.stream name is) ∙ of)) ∙ other))
-
-stands_own : (client name : List ℕ) (ss : List Stream) → client_in name ≡ client → stands name ss ≡ stands name (own client ss)
-stands_own client name [] of = refl
-stands_own client name (s ∷ ss) of =
-    elim (is_of_client client s) as (λ b. is_of_client client s ≡ b → (is_named name s || stands name ss) ≡ stands name (if b then s ∷ own client ss else own client ss)) [
-      | true ↦ λ is. ap (λ b. is_named name s || b) (stands_own client name ss of)
-      | false ↦ λ other. ap (λ b. b || stands name ss) (not_named client name s of other) ∙ stands_own client name ss of
-    ] refl
-
--- a name that stands among a client's streams is of that client
-name_of_own : (client name : List ℕ) (ss : List Stream) → stands name (own client ss) ≡ true → client_in name ≡ client
-name_of_own client name [] here = cc here
-name_of_own client name (s ∷ ss) here =
-    elim (is_of_client client s) as (λ b. is_of_client client s ≡ b → stands name (if b then s ∷ own client ss else own client ss) ≡ true → client_in name ≡ client) [
-      | true ↦ λ is some. elim (or_cases (is_named name s) (stands name (own client ss)) some) [
-        | inl this ↦ ap client_in (sym (same_text s.conf.stream name this)) ∙ same_text (client_in s.conf.stream) client is
-        | inr later ↦ name_of_own client name ss later
-      ]
-      | false ↦ λ other later. name_of_own client name ss later
-    ] refl here
+-- ---- facts, over a client's streams
 
 own_map : (client : List ℕ) (f : Fact) (ss : List Stream) → own client (map (stream_after f) ss) ≡ map (stream_after f) (own client ss)
 own_map client f [] = refl
@@ -74,7 +50,7 @@ pub record AreAlike (client : List ℕ) (p q : Parts) : Type 0 where
 
 -- the stream that a fact brings
 abbrev next_one : StreamConf → ℕ → Stream
-next_one conf n = record { client = client_in conf.stream; number = n + 1; conf = conf; made = 0 }
+next_one conf n = new_stream (client_in conf.stream) (n + 1) conf
 
 created_own : (client : List ℕ) (p : Parts) (conf : StreamConf) (time : ℕ) → bytes_eq (client_in conf.stream) client ≡ true → AreOrderly p.created p.streams
     → own client (parts_after p (Created conf time)).streams
@@ -93,6 +69,11 @@ created_own client p conf time is orderly =
     mapped : (ss : List Stream) → AreOrderly p.created ss → AreOrderly p.created (map (stream_after (Created conf time)) ss)
     mapped ss orderly = subst (AreOrderly p.created) (sym (same_all ss)) orderly
 
+-- a client's streams after a fact that brings none
+kept_own : (client : List ℕ) (f : Fact) (ss : List Stream)
+    → own client (without (removed_by f) (map (stream_after f) ss)) ≡ without (removed_by f) (map (stream_after f) (own client ss))
+kept_own client f ss = own_without client (removed_by f) (map (stream_after f) ss) ∙ ap (without (removed_by f)) (own_map client f ss)
+
 streams_alike : (client : List ℕ) (p q : Parts) (f : Fact) → concerns client f ≡ true → AreAlike client p q
     → own client (parts_after p f).streams ≡ own client (parts_after q f).streams
 streams_alike client p q (Created conf time) is alike =
@@ -100,10 +81,8 @@ streams_alike client p q (Created conf time) is alike =
     ∙ ap (λ l. map (stream_after (Created conf time)) l ++ next_one conf (created_by client p.created) ∷ []) alike.streams
     ∙ ap (λ n. map (stream_after (Created conf time)) (own client q.streams) ++ next_one conf n ∷ []) alike.created
     ∙ sym (created_own client q conf time is alike.second)
-streams_alike client p q (Published id news time) is alike =
-    own_map client (Published id news time) p.streams ∙ ap (map (stream_after (Published id news time))) alike.streams ∙ sym (own_map client (Published id news time) q.streams)
-streams_alike client p q (Settled stream items) is alike =
-    own_map client (Settled stream items) p.streams ∙ ap (map (stream_after (Settled stream items))) alike.streams ∙ sym (own_map client (Settled stream items) q.streams)
+streams_alike client p q f is alike =
+    kept_own client f p.streams ∙ ap (λ l. without (removed_by f) (map (stream_after f) l)) alike.streams ∙ sym (kept_own client f q.streams)
 
 counts_alike : (client : List ℕ) (p q : Parts) (f : Fact) → concerns client f ≡ true → AreAlike client p q
     → created_by client (parts_after p f).created ≡ created_by client (parts_after q f).created
@@ -111,8 +90,7 @@ counts_alike client p q (Created conf time) is alike =
     let same : client_in conf.stream ≡ client = same_text (client_in conf.stream) client is in
     ap (λ c. created_by client (count_one c p.created)) same ∙ one_counted client p.created ∙ ap (λ n. n + 1) alike.created
     ∙ sym (ap (λ c. created_by client (count_one c q.created)) same ∙ one_counted client q.created)
-counts_alike client p q (Published id news time) is alike = alike.created
-counts_alike client p q (Settled stream items) is alike = alike.created
+counts_alike client p q f is alike = alike.created
 
 -- after a fact that concerns the client they are alike still
 alike_both : (client : List ℕ) (p q : Parts) (f : Fact) → concerns client f ≡ true → AreAlike client p q → AreAlike client (parts_after p f) (parts_after q f)
@@ -134,16 +112,12 @@ left_streams client p (Created conf time) not =
     same_all [] = refl
     same_all (s ∷ ss) = ap (λ l. s ∷ l) (same_all ss)
 left_streams client p (Published id news time) not = cc not
-left_streams client p (Settled stream items) not = ap (own client) (same_all p.streams)
-  where
-    same_all : (ss : List Stream) → map (stream_after (Settled stream items)) ss ≡ ss
-    same_all [] = refl
-    same_all (s ∷ ss) = ap (λ l. s ∷ l) (same_all ss)
+left_streams client p f not =
+    kept_own client f p.streams ∙ ap (without (removed_by f)) (streams_left client f p.streams not) ∙ without_left client f p.streams not
 
 left_counts : (client : List ℕ) (p : Parts) (f : Fact) → concerns client f ≡ false → created_by client (parts_after p f).created ≡ created_by client p.created
 left_counts client p (Created conf time) not = other_counted client (client_in conf.stream) p.created not
-left_counts client p (Published id news time) not = refl
-left_counts client p (Settled stream items) not = refl
+left_counts client p f not = refl
 
 alike_first : (client : List ℕ) (p q : Parts) (f : Fact) → concerns client f ≡ false → AreAlike client p q → AreAlike client (parts_after p f) q
 alike_first client p q f not alike = record {
@@ -165,14 +139,6 @@ parts_alike client p q (f ∷ fs) alike =
     ] refl
 
 -- ---- what survives
-
--- a fact of others takes nothing off a client's stream
-takes_none : (client name : List ℕ) (f : Fact) (t : Made) → client_in name ≡ client → concerns client f ≡ false → takes_off name f t ≡ false
-takes_none client name (Created conf time) t of not = refl
-takes_none client name (Published id news time) t of not = refl
-takes_none client name (Settled stream items) t of not =
-    ap (λ b. b && names_number t.number items) (false_from_ne_true (bytes_eq stream name) (λ is.
-    true≢false (sym (text_itself (client_in stream) client (ap client_in (same_text stream name is) ∙ of)) ∙ not)))
 
 stands_alike : (client name : List ℕ) (p q : Parts) → client_in name ≡ client → AreAlike client p q → stands name p.streams ≡ stands name q.streams
 stands_alike client name p q of alike =
@@ -229,15 +195,12 @@ made_alike client name p q f of alike =
     ∙ ap (λ sid. filter (is_of name) (flat_map (token_for sid f) (own client q.streams))) alike.store
     ∙ sym (tokens_own client name q.store_id f q.streams of)
 
--- facts of others tell no stream anything
-silent : (client : List ℕ) (f : Fact) (s : Stream) → concerns client f ≡ false → tells f s ≡ None
-silent client (Created conf time) s not = refl
-silent client (Published id news time) s not = cc not
-silent client (Settled stream items) s not = refl
-
-none_made : (client sid : List ℕ) (f : Fact) (ss : List Stream) → concerns client f ≡ false → flat_map (token_for sid f) ss ≡ []
-none_made client sid f [] not = refl
-none_made client sid f (s ∷ ss) not = rw (silent client f s not) (none_made client sid f ss not)
+-- facts of others make none for a client's stream
+none_made : (client name : List ℕ) (p : Parts) (f : Fact) → client_in name ≡ client → concerns client f ≡ false → filter (is_of name) (made_by p f) ≡ []
+none_made client name p f of other =
+    tokens_own client name p.store_id f p.streams of
+    ∙ ap (filter (is_of name)) (none_own client (token_for p.store_id f)
+    (λ s is. ap (token_by p.store_id (time_of f) s) (tells_left client f s is other)) p.streams)
 
 owed_alike : (client name : List ℕ) (p q : Parts) (facts : List Fact) → client_in name ≡ client → AreAlike client p q
     → owed_of name p facts ≡ owed_of name q (filter (concerns client) facts)
@@ -251,8 +214,7 @@ owed_alike client name p q (f ∷ fs) of alike =
           (λ t. survives_alike client name (parts_after p f) (parts_after q f) fs t of next) (filter (is_of name) (made_by q f)))
           ∙ ap (λ l. filter (survives name (parts_after q f) rest) (filter (is_of name) (made_by q f)) ++ l)
           (owed_alike client name (parts_after p f) (parts_after q f) fs of next)
-      | false ↦ λ other. ap (λ l. filter (survives name (parts_after p f) fs) (filter (is_of name) l) ++ owed_of name (parts_after p f) fs)
-          (none_made client p.store_id f p.streams other)
+      | false ↦ λ other. ap (λ l. filter (survives name (parts_after p f) fs) l ++ owed_of name (parts_after p f) fs) (none_made client name p f of other)
           ∙ owed_alike client name (parts_after p f) q fs of (alike_first client p q f other alike)
     ] refl
 

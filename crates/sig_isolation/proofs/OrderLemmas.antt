@@ -1,14 +1,14 @@
 -- The order of clients, and the streams of one client among others.
-use Rattle.std.proofs.Common.{◌≡◌, ◌∙◌, ap, sym, subst, ℕ, ◌+◌, ◌≤◌, List, [], ◌∷◌, ◌++◌, map, filter, Bool, true, false, ◌&&◌, bytes_eq, if◌then◌else◌, refl, inl, inr, Less, Equal, Greater, nat_cmp, true≢false, arith}
+use Rattle.std.proofs.Common.{◌≡◌, ◌∙◌, ap, sym, subst, ℕ, ◌+◌, ◌≤◌, List, [], ◌∷◌, ◌++◌, map, filter, Bool, true, false, not, ◌&&◌, bytes_eq, Option, Some, None, if◌then◌else◌, refl, inl, inr, Less, Equal, Greater, nat_cmp, true≢false, arith}
 use Rattle.std.specs.Prelude.{⊤, nat_lt}
 use Rattle.std.specs.Cmp.Lexicographic.{slice_cmp}
 use Rattle.std.specs.Ordering.{is_lt, ordering_reverse}
 use Rattle.std.proofs.lemmas.Bool.{and_from, and_parts, false_from_ne_true, lt-ltb, or_cases, or_parts}
 use Rattle.std.proofs.lemmas.Cmp.{nat_list_cmp_total}
 use Rattle.sig_terms.specs.declared.fact.Fact.{Fact}
-use Rattle.sig_terms.specs.declared.fact.Fact.TheVariants.{Created, Published, Settled}
-use Rattle.sig_history.specs.Streams.{Stream, Count, Parts, client_in, comes_before, count_one, created_by, is_before, put_in_order}
-use Rattle.sig_history.specs.Facts.{brought_by, counted, parts_after, placed, stream_after}
+use Rattle.sig_terms.specs.declared.fact.Fact.TheVariants.{Created}
+use Rattle.sig_history.specs.Streams.{Stream, Count, Parts, client_in, comes_before, count_one, created_by, is_before, is_named, put_in_order}
+use Rattle.sig_history.specs.Facts.{brought_by, counted, new_stream, parts_after, placed, removed_by, stream_after, without}
 use Rattle.sig_isolation.specs.Isolation.{is_of_client}
 use Rattle.sig_history.proofs.WholeLemmas.{other_comes}
 use Rattle.sig_history.proofs.StreamLemmas.{IsSameStream, after_same, counts_grow, one_counted, same_text}
@@ -112,18 +112,39 @@ orderly_count client counts (s ∷ ss) orderly = (
   orderly_count client counts ss orderly.2,
 )
 
+follow_filter : (c : List ℕ) (p : Stream → Bool) (ss : List Stream) → Follow c ss → Follow c (filter p ss)
+follow_filter c p [] follow = tt
+follow_filter c p (t ∷ ts) follow =
+    elim (p t) as (λ b. Follow c (if b then t ∷ filter p ts else filter p ts)) [
+      | true ↦ (follow.0, follow_filter c p ts follow.1)
+      | false ↦ follow_filter c p ts follow.1
+    ]
+
+orderly_filter : (counts : List Count) (p : Stream → Bool) (ss : List Stream) → AreOrderly counts ss → AreOrderly counts (filter p ss)
+orderly_filter counts p [] orderly = tt
+orderly_filter counts p (s ∷ ss) orderly =
+    elim (p s) as (λ b. AreOrderly counts (if b then s ∷ filter p ss else filter p ss)) [
+      | true ↦ (orderly.0, follow_filter s.client p ss orderly.1, orderly_filter counts p ss orderly.2)
+      | false ↦ orderly_filter counts p ss orderly.2
+    ]
+
+orderly_without : (counts : List Count) (o : Option (List ℕ)) (ss : List Stream) → AreOrderly counts ss → AreOrderly counts (without o ss)
+orderly_without counts None ss orderly = orderly
+orderly_without counts (Some name) ss orderly = orderly_filter counts (λ (s : Stream). not (is_named name s)) ss orderly
+
 placed_orderly : (parts : Parts) (f : Fact) (ss : List Stream) → AreOrderly parts.created ss
     → AreOrderly (counted (brought_by parts f) parts.created) (placed (brought_by parts f) ss)
 placed_orderly parts (Created conf time) ss orderly =
     let client : List ℕ = client_in conf.stream in
-    orderly_put (count_one client parts.created) (record { client = client; number = created_by client parts.created + 1; conf = conf; made = 0 }) ss
+    orderly_put (count_one client parts.created) (new_stream client (created_by client parts.created + 1) conf) ss
     (record { named = refl; number = omega (arith, one_counted client parts.created) })
     (orderly_count client parts.created ss orderly)
-placed_orderly parts (Published id news time) ss orderly = orderly
-placed_orderly parts (Settled stream items) ss orderly = orderly
+placed_orderly parts f ss orderly = orderly
 
 pub orderly_after : (parts : Parts) (f : Fact) → AreOrderly parts.created parts.streams → AreOrderly (parts_after parts f).created (parts_after parts f).streams
-orderly_after parts f orderly = placed_orderly parts f (map (stream_after f) parts.streams) (orderly_map parts.created f parts.streams orderly)
+orderly_after parts f orderly =
+    placed_orderly parts f (without (removed_by f) (map (stream_after f) parts.streams))
+    (orderly_without parts.created (removed_by f) (map (stream_after f) parts.streams) (orderly_map parts.created f parts.streams orderly))
 
 -- ---- the streams of one client
 

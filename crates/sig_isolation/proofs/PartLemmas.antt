@@ -1,16 +1,16 @@
 -- Over a new store each stream is the client's whose name begins its own, so a client's part of a history says what the
 -- table asks of its streams.
-use Rattle.std.proofs.Common.{◌≡◌, ◌∙◌, ap, sym, ℕ, ◌+◌, List, [], ◌∷◌, map, filter, length, true, false, ◌&&◌, ◌||◌, bytes_eq, if◌then◌else◌, refl, inl, inr}
-use Rattle.std.proofs.lemmas.Bool.{or_cases, or_left, or_right}
+use Rattle.std.proofs.Common.{◌≡◌, ◌∙◌, ap, sym, ℕ, ◌+◌, List, [], ◌∷◌, map, filter, true, false, not, ◌&&◌, bytes_eq, Option, Some, None, if◌then◌else◌, refl}
 use Rattle.sig_terms.specs.declared.fact.Fact.{Fact}
-use Rattle.sig_terms.specs.declared.fact.Fact.TheVariants.{Created, Published, Settled}
-use Rattle.sig_history.specs.Streams.{Stream, Parts, client_in, created_by, is_before, is_named, put_in_order, stands, streams_of}
-use Rattle.sig_history.specs.Facts.{brought_by, parts_after, parts_of, placed, stream_after}
-use Rattle.sig_history.specs.Owed.{Sum, owed_by, owed_in}
+use Rattle.sig_terms.specs.declared.fact.Fact.TheVariants.{Created}
+use Rattle.sig_history.specs.Streams.{Stream, Parts, client_in, created_by, is_before, is_named, put_in_order, stands}
+use Rattle.sig_history.specs.Facts.{brought_by, new_stream, parts_after, parts_of, placed, removed_by, stream_after, without}
+use Rattle.sig_history.specs.Owed.{Sum, owed_by, owed_in, stream_named}
 use Rattle.sig_isolation.specs.Isolation.{is_of_client}
-use Rattle.sig_calls.specs.Polling.{has_stream}
+use Rattle.sig_calls.specs.Found.{client_stream}
 use Rattle.sig_history.proofs.JoinLemmas.{found}
 use Rattle.sig_history.proofs.StreamLemmas.{IsSameStream, after_same}
+use Rattle.sig_isolation.proofs.OrderLemmas.{own}
 
 -- ---- each stream is its client's by its name
 
@@ -35,50 +35,50 @@ put_named s (t ∷ ts) this named =
       | false ↦ (this, named)
     ]
 
+filter_named : (p : Stream → Bool) (ss : List Stream) → AreNamed ss → AreNamed (filter p ss)
+filter_named p [] named = tt
+filter_named p (s ∷ ss) named =
+    elim (p s) as (λ b. AreNamed (if b then s ∷ filter p ss else filter p ss)) [
+      | true ↦ (named.0, filter_named p ss named.1)
+      | false ↦ filter_named p ss named.1
+    ]
+
+without_named : (o : Option (List ℕ)) (ss : List Stream) → AreNamed ss → AreNamed (without o ss)
+without_named None ss named = named
+without_named (Some name) ss named = filter_named (λ (s : Stream). not (is_named name s)) ss named
+
 placed_named : (parts : Parts) (f : Fact) (ss : List Stream) → AreNamed ss → AreNamed (placed (brought_by parts f) ss)
 placed_named parts (Created conf time) ss named =
     let client : List ℕ = client_in conf.stream in
-    put_named (record { client = client; number = created_by client parts.created + 1; conf = conf; made = 0 }) ss refl named
-placed_named parts (Published id news time) ss named = named
-placed_named parts (Settled stream items) ss named = named
+    put_named (new_stream client (created_by client parts.created + 1) conf) ss refl named
+placed_named parts f ss named = named
 
 pub named_after : (parts : Parts) (facts : List Fact) → AreNamed parts.streams → AreNamed (parts_of parts facts).streams
 named_after parts [] named = named
 named_after parts (f ∷ facts) named =
-    named_after (parts_after parts f) facts (placed_named parts f (map (stream_after f) parts.streams) (each_named f parts.streams named))
+    named_after (parts_after parts f) facts
+    (placed_named parts f (without (removed_by f) (map (stream_after f) parts.streams))
+    (without_named (removed_by f) (map (stream_after f) parts.streams) (each_named f parts.streams named)))
 
 -- ---- a client's part
 
-pub count_of_part : (client : List ℕ) (ss : List Stream) → AreNamed ss → streams_of client ss ≡ length (filter (is_of_client client) ss)
-count_of_part client ss named = ap length (same_streams ss named)
-  where
-    same_streams : (ss : List Stream) → AreNamed ss → filter (λ (s : Stream). bytes_eq s.client client) ss ≡ filter (is_of_client client) ss
-    same_streams [] named = refl
-    same_streams (s ∷ ss) named =
-        ap (λ l. if bytes_eq s.client client then s ∷ l else l) (same_streams ss named.1)
-        ∙ ap (λ c. if bytes_eq c client then s ∷ filter (is_of_client client) ss else filter (is_of_client client) ss) (sym named.0)
+-- of the streams those that carry its name are its own
+pub same_streams : (client : List ℕ) (ss : List Stream) → AreNamed ss → filter (λ (s : Stream). bytes_eq s.client client) ss ≡ own client ss
+same_streams client [] named = refl
+same_streams client (s ∷ ss) named =
+    ap (λ l. if bytes_eq s.client client then s ∷ l else l) (same_streams client ss named.1)
+    ∙ ap (λ c. if bytes_eq c client then s ∷ own client ss else own client ss) (sym named.0)
 
-pub has_of_part : (client name : List ℕ) (ss : List Stream) → AreNamed ss → has_stream client name ss ≡ stands name (filter (is_of_client client) ss)
-has_of_part client name [] named = refl
-has_of_part client name (s ∷ ss) named =
-    ap (λ c. (bytes_eq c client && is_named name s) || has_stream client name ss) (sym named.0)
-    ∙ elim (is_of_client client s) as (λ b. ((b && is_named name s) || has_stream client name ss)
-    ≡ stands name (if b then s ∷ filter (is_of_client client) ss else filter (is_of_client client) ss)) [
-      | true ↦ ap (λ b. is_named name s || b) (has_of_part client name ss named.1)
-      | false ↦ has_of_part client name ss named.1
+-- a client's stream is found among them
+pub found_of_part : (client name : List ℕ) (ss : List Stream) → AreNamed ss → client_stream client name ss ≡ stream_named name (own client ss)
+found_of_part client name [] named = refl
+found_of_part client name (s ∷ ss) named =
+    ap (λ c. if bytes_eq c client && is_named name s then Some s else client_stream client name ss) (sym named.0)
+    ∙ elim (is_of_client client s) as (λ b. (if b && is_named name s then Some s else client_stream client name ss)
+    ≡ stream_named name (if b then s ∷ own client ss else own client ss)) [
+      | true ↦ ap (λ o. if is_named name s then Some s else o) (found_of_part client name ss named.1)
+      | false ↦ found_of_part client name ss named.1
     ]
-
-pub stands_of_part : (client name : List ℕ) (ss : List Stream) → stands name (filter (is_of_client client) ss) ≡ true → stands name ss ≡ true
-stands_of_part client name [] here = here
-stands_of_part client name (s ∷ ss) here =
-    elim (is_of_client client s) as (λ b. stands name (if b then s ∷ filter (is_of_client client) ss else filter (is_of_client client) ss) ≡ true
-    → stands name (s ∷ ss) ≡ true) [
-      | true ↦ λ some. elim (or_cases (is_named name s) (stands name (filter (is_of_client client) ss)) some) [
-        | inl this ↦ or_left (is_named name s) (stands name ss) this
-        | inr later ↦ or_right (is_named name s) (stands name ss) (stands_of_part client name ss later)
-      ]
-      | false ↦ λ later. or_right (is_named name s) (stands name ss) (stands_of_part client name ss later)
-    ] here
 
 -- what a stream of the part owes
 pub owed_of_part : (client name : List ℕ) (sum : Sum) → stands name (filter (is_of_client client) sum.parts.streams) ≡ true
