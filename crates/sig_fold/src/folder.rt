@@ -13,21 +13,21 @@ use sig_json::limits::TOKEN_BYTES;
 use sig_json::{Bytes, Memory, Text};
 use sig_outside::Sink;
 use sig_receiver::{Heard, Receiver, answer_line};
-use sig_set::{Code, Spot, Trust};
+use sig_set::{Code, PreparedTrust, Spot};
 use std::alloc::Global;
 
 /// Judges each line as a token of an issuer, who is the principal too, and keeps what was taken.
 #[derive(Drop)]
 pub struct Folder {
     alloc: Global,
-    trust: Trust,
+    trust: PreparedTrust,
     issuer: Text,
     receiver: Receiver,
 }
 
 impl Folder {
     /// One that judged nothing yet.
-    pub fn new(alloc: Global, trust: Trust, issuer: Text) -> Folder
+    pub fn new(alloc: Global, trust: PreparedTrust, issuer: Text) -> Folder
         ensures trust { result.trust ≡ trust }
         ensures issuer { result.issuer ≡ issuer }
         ensures receiver { StandsFor result.receiver [] }

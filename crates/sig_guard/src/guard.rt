@@ -9,7 +9,7 @@ ghost use Rattle.sig_guard.specs.Guard.{answer_to, pairs_after, rows_after};
 use sig_inbox::{Found, Pair, Seen};
 use sig_json::Text;
 use sig_sessions::Table;
-use sig_set::{Claims, Refusal, Trust, judge};
+use sig_set::{Claims, PreparedTrust, Refusal, judge_prepared};
 use sig_subject::Subject;
 use std::alloc::Global;
 
@@ -19,7 +19,7 @@ pub struct Guard {
     /// What its values grow with.
     pub alloc: Global,
     /// Whom it trusts.
-    pub trust: Trust,
+    pub trust: PreparedTrust,
     /// The issuer for whom whoever brings a token speaks.
     pub issuer: Text,
     /// The session that it guards.
@@ -43,7 +43,7 @@ impl Guard {
         ensures issuer { self.new.issuer ≡ self.old.issuer }
         ensures session { self.new.session ≡ self.old.session }
     {
-        let claims = judge(self.alloc, &self.trust, Some(&self.issuer), None, token)?;
+        let claims = judge_prepared(self.alloc, &self.trust, Some(&self.issuer), None, token)?;
         let change = self.table.prepare(&claims)?;
         let Claims { iss, jti, .. } = claims;
         match self.seen.add(Pair { iss, jti })? {

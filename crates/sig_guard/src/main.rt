@@ -16,7 +16,7 @@ use sig_inbox::{Found, Seen};
 use sig_json::{Bytes, Items, Memory, Text};
 use sig_jws::Key;
 use sig_sessions::Table;
-use sig_set::{Issuer, Refusal, Trust};
+use sig_set::{Issuer, PreparedTrust, Refusal, Trust};
 use sig_subject::{Plain, Simple, Subject};
 use std::alloc::Global;
 use std::io;
@@ -68,12 +68,13 @@ fn new_guard(alloc: Global) -> Result<Guard, Memory> {
     })
 }
 
-// One issuer with one key, which has no name.
-fn trust(alloc: Global) -> Result<Trust, Memory> {
-    Ok(Trust {
+// One issuer with one key, which has no name, prepared for all tokens.
+fn trust(alloc: Global) -> Result<PreparedTrust, Memory> {
+    let trust = Trust {
         audience: Text::of(alloc, AUDIENCE)?,
         issuers: issuers(alloc)?,
-    })
+    };
+    PreparedTrust::of(alloc, &trust)
 }
 
 fn issuers(alloc: Global) -> Result<Items<Issuer>, Memory> {

@@ -21,7 +21,7 @@ use sig_fold::Folder;
 use sig_json::{Bytes, Items, Memory, Text};
 use sig_jws::Key;
 use sig_outside::{Sink, Source};
-use sig_set::{Issuer, Trust};
+use sig_set::{Issuer, PreparedTrust, Trust};
 use sig_world::replay;
 use std::alloc::Global;
 use std::io;
@@ -165,8 +165,8 @@ fn run_fold<I: Source, O: Sink>(
     tell_all(alloc, &mut folder, input, output)
 }
 
-// One issuer with one key, which has no name.
-fn trust_from(alloc: Global, iss: &Text, aud: Text, key: Bytes) -> Result<Trust, Memory>
+// One issuer with one key, which has no name, prepared for all tokens of the run.
+fn trust_from(alloc: Global, iss: &Text, aud: Text, key: Bytes) -> Result<PreparedTrust, Memory>
     ensures { IfOk result (λ trust. trust ≡ trust_of iss.now aud key) }
 {
     let mut keys = Vec::new(alloc);
@@ -179,8 +179,9 @@ fn trust_from(alloc: Global, iss: &Text, aud: Text, key: Bytes) -> Result<Trust,
         iss: iss.copy(alloc)?,
         keys: Items::of(keys),
     })?;
-    Ok(Trust {
+    let trust = Trust {
         audience: aud,
         issuers: Items::of(issuers),
-    })
+    };
+    PreparedTrust::of(alloc, &trust)
 }

@@ -6,7 +6,7 @@ use crate::{Heard, Hearing, Ready, TakeFault};
 use sig_inbox::{Pair, Seen};
 use sig_json::{Memory, Text};
 use sig_sessions::{Row, Table, Verdict};
-use sig_set::{Claims, Refusal, Trust, claims_of, judge};
+use sig_set::{Claims, PreparedTrust, Refusal, claims_of, judge_prepared};
 use sig_subject::Subject;
 use std::alloc::Global;
 use std::marker::Model;
@@ -50,7 +50,7 @@ impl Receiver {
     /// beyond its judgement. Out of memory is its only error.
     pub fn prepare(
         &mut self,
-        trust: &Trust,
+        trust: &PreparedTrust,
         principal: Option<&Text>,
         named: Option<&Text>,
         text: &[u8],
@@ -61,7 +61,7 @@ impl Receiver {
         ensures ready { IfOk result (λ hearing. IfSome hearing.change (IsReady self.new)) }
         ensures makes { IfOk result (λ hearing. committed_if hearing.change (received self.old) ≡ received_of (received self.old) (journal_by hearing.heard [] text.now)) }
     {
-        match judge(self.alloc, trust, principal, named, text) {
+        match judge_prepared(self.alloc, trust, principal, named, text) {
             Ok(claims) => self.prepare_valid(claims),
             Err(Refusal::Coded { code, spot }) => Ok(Hearing {
                 heard: Heard::NotTaken { code, spot },
@@ -168,7 +168,7 @@ impl Receiver {
     /// less a journal. After out of memory what is kept is as before.
     pub fn hear(
         &mut self,
-        trust: &Trust,
+        trust: &PreparedTrust,
         principal: Option<&Text>,
         named: Option<&Text>,
         text: &[u8],

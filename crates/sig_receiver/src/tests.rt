@@ -5,7 +5,7 @@ mod tokens;
 use crate::{Heard, Hearing, Receiver, TakeFault, answer_line, counts_line, row_line};
 use sig_json::{Bytes, Items, Memory, Text};
 use sig_jws::Key;
-use sig_set::{Issuer, Spot, Trust};
+use sig_set::{Issuer, PreparedTrust, Spot, Trust};
 use std::alloc::Global;
 use std::test::Fail;
 
@@ -26,14 +26,15 @@ fn issuer(alloc: Global, iss: &str) -> Result<Issuer, Memory> {
 }
 
 // Two issuers with one key each.
-fn trust(alloc: Global) -> Result<Trust, Memory> {
+fn trust(alloc: Global) -> Result<PreparedTrust, Memory> {
     let mut issuers = Vec::new(alloc);
     issuers.push(issuer(alloc, ISSUER)?)?;
     issuers.push(issuer(alloc, OTHER)?)?;
-    Ok(Trust {
+    let trust = Trust {
         audience: Text::of(alloc, "https://rp.example")?,
         issuers: Items::of(issuers),
-    })
+    };
+    PreparedTrust::of(alloc, &trust)
 }
 
 // What is kept after a token of the first issuer is prepared and committed, and the line of its answer.

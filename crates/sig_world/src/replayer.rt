@@ -20,7 +20,7 @@ use sig_outbox::{Answer, Call, Outbox, Outcome, PrepareFault, Prepared, Rules, S
 use sig_outside::Sink;
 use sig_receiver::{Heard, Receiver};
 use sig_script::{ScriptLine, script_line};
-use sig_set::{Code, Trust, signed_claims};
+use sig_set::{Code, PreparedTrust, signed_claims};
 use sig_subject::Subject;
 use std::alloc::Global;
 
@@ -29,7 +29,7 @@ use std::alloc::Global;
 pub struct Replayer {
     pub(crate) alloc: Global,
     pub(crate) rules: Rules,
-    pub(crate) trust: Trust,
+    pub(crate) trust: PreparedTrust,
     pub(crate) outbox: Outbox,
     pub(crate) receiver: Receiver,
     pub(crate) messages: Vec<Token>,

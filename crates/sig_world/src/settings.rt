@@ -6,7 +6,7 @@ ghost use Rattle.sig_world.specs.Replay as spec;
 use sig_json::{Bytes, Items, Memory, Text};
 use sig_jws::Key;
 use sig_outbox::{Client, Defaults, Rules};
-use sig_set::{Issuer, Trust};
+use sig_set::{Issuer, PreparedTrust, Trust};
 use std::alloc::Global;
 
 /// The transmitter's store, 6ba7b810-9dad-11d1-80b4-00c04fd430c8.
@@ -30,8 +30,8 @@ pub(crate) fn replay_rules(alloc: Global) -> Result<Rules, Memory>
     })
 }
 
-/// Whom the receiver trusts.
-pub(crate) fn replay_trust(alloc: Global) -> Result<Trust, Memory>
+/// Whom the receiver trusts, prepared for all tokens of a script.
+pub(crate) fn replay_trust(alloc: Global) -> Result<PreparedTrust, Memory>
     ensures { IfOk result (λ trust. trust ≡ spec.replay_trust) }
 {
     let mut keys = Vec::new(alloc);
@@ -41,10 +41,11 @@ pub(crate) fn replay_trust(alloc: Global) -> Result<Trust, Memory>
         iss: Text::of(alloc, "https://idp.example")?,
         keys: Items::of(keys),
     })?;
-    Ok(Trust {
+    let trust = Trust {
         audience: Text::of(alloc, "https://rp.example")?,
         issuers: Items::of(issuers),
-    })
+    };
+    PreparedTrust::of(alloc, &trust)
 }
 
 fn clients(alloc: Global) -> Result<Items<Client>, Memory>
