@@ -1,6 +1,6 @@
 -- Over a new store each stream is the client's whose name begins its own, so a client's part of a history says what the
 -- table asks of its streams.
-use Rattle.std.proofs.Common.{◌≡◌, ◌∙◌, ap, sym, ℕ, ◌+◌, List, [], ◌∷◌, map, filter, true, false, not, ◌&&◌, bytes_eq, Option, Some, None, if◌then◌else◌, refl}
+use Rattle.std.proofs.Common.{◌≡◌, ◌∙◌, ap, sym, ℕ, ◌+◌, List, [], ◌∷◌, map, filter, Bool, true, false, not, ◌&&◌, bytes_eq, Option, Some, None, if◌then◌else◌, refl}
 use Rattle.sig_terms.specs.declared.fact.Fact.{Fact}
 use Rattle.sig_terms.specs.declared.fact.Fact.TheVariants.{Created}
 use Rattle.sig_history.specs.Streams.{Stream, Parts, client_in, created_by, is_before, is_named, put_in_order, stands}
