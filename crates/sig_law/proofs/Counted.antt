@@ -3,7 +3,7 @@ use Rattle.std.proofs.Common.{◌≡◌, ◌∙◌, ap, sym, subst, ℕ, List, [
 use Rattle.std.specs.Prelude.{All, Contains, is_none, ◌==◌}
 use Rattle.std.specs.List.{list_any, list_all}
 use Rattle.std.proofs.lemmas.Bool.{and_parts, eqb-true, or_cases}
-use Rattle.std.proofs.lemmas.List.Elements.{All-contains, All-contains_itself, All-head, All-map, All-tail}
+use Rattle.std.proofs.lemmas.List.Elements.{All-contains, All-contains_itself, All-head, All-tail}
 use Rattle.sig_event.specs.declared.claims.Claims.{Claims}
 use Rattle.sig_inbox.specs.declared.pair.Pair.{Pair}
 use Rattle.sig_inbox.specs.Pairs.{has_pair}
@@ -19,7 +19,7 @@ use Rattle.sig_terms.specs.declared.fact.Fact.{Fact}
 use Rattle.sig_terms.specs.declared.fact.Fact.TheVariants.{Settled}
 use Rattle.sig_terms.specs.declared.fact.SettledItem.{SettledItem}
 use Rattle.sig_terms.specs.declared.token.Token.{Token}
-use Rattle.sig_history.specs.Streams.{Made, jti_of, stands, token_of}
+use Rattle.sig_history.specs.Streams.{Made, jti_of, made_in, stands}
 use Rattle.sig_history.specs.Facts.{made_by}
 use Rattle.sig_history.specs.Owed.{Sum, owed_by}
 use Rattle.sig_history.specs.Sound.{Fits, are_owed, each_once, has_number, may_be_made}
@@ -34,10 +34,8 @@ use Rattle.sig_law.proofs.Held.{IsCounted, IsHeard, pair_at}
 
 -- a message that was made says what its stream and number say
 pub message_ours : (issuer store : List ℕ) (tokens : List Made) (m : Token) → All (IsOurToken issuer store) tokens
-    → Contains (map token_of tokens) m → IsOurs issuer store m.stream m.number m.claims
-message_ours issuer store tokens m ours there =
-    All-contains (λ (t : Token). IsOurs issuer store t.stream t.number t.claims) (map token_of tokens) m
-    (All-map (λ (t : Token). IsOurs issuer store t.stream t.number t.claims) token_of tokens ours) there
+    → Contains tokens (made_in m) → IsOurs issuer store m.stream m.number m.claims
+message_ours issuer store tokens m ours there = All-contains (IsOurToken issuer store) tokens (made_in m) ours there
 
 pair_same : (a b : Pair) → a.iss ≡ b.iss → a.jti ≡ b.jti → a ≡ b
 pair_same a b iss jti = ap (λ i. record { iss = i; jti = a.jti }) iss ∙ ap (λ j. record { iss = b.iss; jti = j }) jti

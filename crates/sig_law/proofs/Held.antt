@@ -16,7 +16,7 @@ use Rattle.sig_receiver.specs.Journal.{pair_of, pairs_of, distinct, answer_by, j
 use Rattle.sig_receiver.proofs.JournalLemmas.{distinct-more, pairs_of-more}
 use Rattle.sig_terms.specs.declared.fact.Fact.{Fact}
 use Rattle.sig_terms.specs.declared.token.Token.{Token}
-use Rattle.sig_history.specs.Streams.{Made, jti_of, token_of}
+use Rattle.sig_history.specs.Streams.{Made, jti_of, made_in}
 use Rattle.sig_calls.specs.Regular.{acknowledges}
 use Rattle.sig_law.specs.Law.{is_acknowledged}
 use Rattle.sig_law.specs.World.{Reply, is_taken}
@@ -46,9 +46,13 @@ claims_made t = t.claims
 abbrev pub pair_at : List ℕ → List ℕ → Made → Pair
 pair_at issuer store t = record { iss = issuer; jti = jti_of store t.stream t.number }
 
+-- a message is a token that was made
+abbrev pub IsMade : List Made → Token → Type 0
+IsMade tokens m = Contains tokens (made_in m)
+
 -- an answer is to a token that was made, which stands in the journal where it was taken
 pub record IsHeard (tokens : List Made) (journal : List (List ℕ)) (r : Reply) : Type 0 where
-  pub message : Contains (map token_of tokens) r.message
+  pub message : IsMade tokens r.message
   pub taken : is_taken r.heard ≡ true → has_pair (pair_of r.message.claims) (pairs_of journal) ≡ true
 
 -- a text of the journal is of a token that was made
@@ -60,7 +64,7 @@ abbrev pub IsCounted : List ℕ → List ℕ → List (List ℕ) → Fact → Ty
 IsCounted issuer store journal f = (t : Made) → acknowledges f t ≡ true → has_pair (pair_at issuer store t) (pairs_of journal) ≡ true
 
 pub record IsHeld (issuer store : List ℕ) (tokens : List Made) (facts : List Fact) (journal : List (List ℕ)) (messages : List Token) (replies : List Reply) : Type 0 where
-  pub handed : All (Contains (map token_of tokens)) messages
+  pub handed : All (IsMade tokens) messages
   pub heard : All (IsHeard tokens journal) replies
   pub written : All (IsWritten tokens) journal
   pub once : distinct [] journal ≡ journal
@@ -80,10 +84,10 @@ pub held_after : (issuer store : List ℕ) (tokens new : List Made) (facts : Lis
     (replies : List Reply) → IsHeld issuer store tokens facts journal messages replies → IsCounted issuer store journal f
     → IsHeld issuer store (tokens ++ new) (facts ++ f ∷ []) journal messages replies
 held_after issuer store tokens new facts f journal messages replies held counts = record {
-  handed = All-weaker (Contains (map token_of tokens)) (Contains (map token_of (tokens ++ new)))
-      (λ m h. among_more token_of tokens new m h) messages held.handed;
+  handed = All-weaker (IsMade tokens) (IsMade (tokens ++ new))
+      (λ m h. Contains-append_left tokens new (made_in m) h) messages held.handed;
   heard = All-weaker (IsHeard tokens journal) (IsHeard (tokens ++ new) journal)
-      (λ r h. record { message = among_more token_of tokens new r.message h.message; taken = h.taken }) replies held.heard;
+      (λ r h. record { message = Contains-append_left tokens new (made_in r.message) h.message; taken = h.taken }) replies held.heard;
   written = All-weaker (IsWritten tokens) (IsWritten (tokens ++ new))
       (λ text h. among_more claims_made tokens new (claims_of text) h) journal held.written;
   once = held.once;
@@ -93,10 +97,10 @@ held_after issuer store tokens new facts f journal messages replies held counts 
 -- ---- messages more
 
 pub held_handing : (issuer store : List ℕ) (tokens : List Made) (facts : List Fact) (journal : List (List ℕ)) (messages more : List Token)
-    (replies : List Reply) → IsHeld issuer store tokens facts journal messages replies → All (Contains (map token_of tokens)) more
+    (replies : List Reply) → IsHeld issuer store tokens facts journal messages replies → All (IsMade tokens) more
     → IsHeld issuer store tokens facts journal (messages ++ more) replies
 held_handing issuer store tokens facts journal messages more replies held all = record {
-  handed = All-append (Contains (map token_of tokens)) messages more held.handed all;
+  handed = All-append (IsMade tokens) messages more held.handed all;
   heard = held.heard;
   written = held.written;
   once = held.once;

@@ -2,11 +2,11 @@
 use Rattle.std.specs.Option.{option_to_list}
 use Rattle.std.proofs.Common.{◌≡◌, ◌∙◌, ap, sym, subst, ◌≤◌, List, [], ◌∷◌, ◌++◌, map, true, Option, Some, None, append_assoc, append-nil}
 use Rattle.std.specs.Prelude.{All, Contains, IfSome, IsUtf8}
-use Rattle.std.proofs.lemmas.List.Elements.{All-contains, All-map, All-weaker}
+use Rattle.std.proofs.lemmas.List.Elements.{All-contains, All-weaker}
 use Rattle.sig_json.specs.declared.limits.TheConstants.{LAST_NUMBER}
 use Rattle.sig_terms.specs.declared.fact.Fact.{Fact}
 use Rattle.sig_terms.specs.declared.token.Token.{Token}
-use Rattle.sig_history.specs.Streams.{Made, Parts, token_of}
+use Rattle.sig_history.specs.Streams.{Made, Parts, made_in}
 use Rattle.sig_history.specs.Facts.{made_by, parts_after, parts_of, tokens_of}
 use Rattle.sig_history.specs.Owed.{Sum, empty_sum, owed_by, sum_of}
 use Rattle.sig_history.specs.Sound.{Fits, is_sound}
@@ -18,7 +18,7 @@ use Rattle.sig_calls.specs.Regular.{IsOwedAfter}
 use Rattle.sig_law.specs.Law.{tokens_in}
 use Rattle.sig_law.specs.World.{Ends, World, sum_in, with_facts, with_messages}
 use Rattle.sig_law.proofs.Counted.{OwesItsOwn}
-use Rattle.sig_law.proofs.Held.{IsCounted, IsHeld, held_after, held_handing, image}
+use Rattle.sig_law.proofs.Held.{IsCounted, IsHeld, IsMade, held_after, held_handing}
 
 -- what holds of the world at each moment, with what keeps it so
 pub record Holds (ends : Ends) (world : World) : Type 0 where
@@ -78,7 +78,7 @@ facts_hold ends world (Some f) text holds fits ours counted = fact_holds ends wo
 
 -- ---- messages more
 
-pub messages_hold : (ends : Ends) (world : World) (more : List Token) → Holds ends world → All (Contains (map token_of (tokens_in ends world))) more
+pub messages_hold : (ends : Ends) (world : World) (more : List Token) → Holds ends world → All (IsMade (tokens_in ends world)) more
     → Holds ends (with_messages world (world.messages ++ more))
 messages_hold ends world more holds all = record {
   kept = holds.kept;
@@ -89,14 +89,10 @@ messages_hold ends world more holds all = record {
 
 -- what a stream owes after a call was made
 pub handed_made : (ends : Ends) (before after : World) (o : Option Fact) (m : Token) → Holds ends after
-    → after.facts ≡ before.facts ++ option_to_list o → IsOwedAfter (sum_in ends before) o m → Contains (map token_of (tokens_in ends after)) m
+    → after.facts ≡ before.facts ++ option_to_list o → IsOwedAfter (sum_in ends before) o m → IsMade (tokens_in ends after) m
 handed_made ends before after o m holds same owed =
     let sum : sum_in ends after ≡ sum_of (sum_in ends before) (option_to_list o) =
     ap (sum_of (empty_sum ends.store_id)) same ∙ joined (empty_sum ends.store_id) before.facts (option_to_list o) in
-    let there : Contains (map token_of (owed_by (sum_in ends after) m.stream)) m =
-    subst (λ s. Contains (map token_of (owed_by s m.stream)) m) (sym sum) owed in
-    All-contains (Contains (map token_of (tokens_in ends after))) (map token_of (owed_by (sum_in ends after) m.stream)) m
-    (All-map (Contains (map token_of (tokens_in ends after))) token_of (owed_by (sum_in ends after) m.stream)
-    (All-weaker (IsMadeFor (tokens_in ends after) m.stream) (λ (t : Made). Contains (map token_of (tokens_in ends after)) (token_of t))
-    (λ t h. image token_of (tokens_in ends after) t h.0) (owed_by (sum_in ends after) m.stream) (holds.kept.owed m.stream)))
-    there
+    let there : Contains (owed_by (sum_in ends after) m.stream) (made_in m) =
+    subst (λ s. Contains (owed_by s m.stream) (made_in m)) (sym sum) owed in
+    (All-contains (IsMadeFor (tokens_in ends after) m.stream) (owed_by (sum_in ends after) m.stream) (made_in m) (holds.kept.owed m.stream) there).0

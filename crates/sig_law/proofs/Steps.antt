@@ -5,7 +5,7 @@ use Rattle.std.specs.Prelude.{All, Contains, IfSome, IsUtf8, nat_le}
 use Rattle.std.specs.List.{slice_get}
 use Rattle.std.specs.Str.{is_utf8}
 use Rattle.std.proofs.lemmas.Bool.{and_parts, leb-true}
-use Rattle.std.proofs.lemmas.List.Elements.{All-contains, All-contains_itself, All-head, All-map, All-tail, All-weaker}
+use Rattle.std.proofs.lemmas.List.Elements.{All-head, All-tail, All-weaker}
 use Rattle.std.proofs.lemmas.Str.{IsUtf8-from_is_utf8}
 use Rattle.sig_json.specs.Checks.{first_failing}
 use Rattle.sig_json.specs.declared.limits.TheConstants.{LAST_NUMBER}
@@ -19,7 +19,7 @@ use Rattle.sig_terms.specs.declared.call.Call.{Call}
 use Rattle.sig_terms.specs.declared.fact.Fact.{Fact}
 use Rattle.sig_terms.specs.declared.rules.Rules.{Rules}
 use Rattle.sig_terms.specs.declared.token.Token.{Token}
-use Rattle.sig_history.specs.Streams.{Made, token_of}
+use Rattle.sig_history.specs.Streams.{Made, made_in}
 use Rattle.sig_history.specs.Sound.{Fits}
 use Rattle.sig_history.specs.Ours.{IsOurs}
 use Rattle.sig_calls.specs.Proper.{IsProperCall, IsProperRules}
@@ -29,7 +29,7 @@ use Rattle.sig_law.specs.Law.{AreProper, IsProperAct, IsProperEvent, tokens_in}
 use Rattle.sig_law.specs.World.{Act, Called, Delivered, Answered, Acts, Elapsed, Ends, Event, World, Reply, answer_recorded, answer_told, call_recorded, call_told, delivery_recorded, delivery_told, happens, heard_of, may_come, recorded, settle_call, sum_in, told, with_facts}
 use Rattle.sig_calls.proofs.RegularLemmas.{calls_regular}
 use Rattle.sig_law.proofs.Counted.{IsTruthful, answer_truthful, call_truthful, fact_counted, message_ours}
-use Rattle.sig_law.proofs.Held.{IsHeard, claims_made, held_hearing, held_judging, image, taken_there}
+use Rattle.sig_law.proofs.Held.{IsHeard, IsMade, claims_made, held_hearing, held_judging, image, taken_there}
 use Rattle.sig_law.proofs.Holding.{Holds, facts_hold, handed_made, messages_hold, owed_ours, owes_its_own}
 
 -- ---- what stands at a place
@@ -83,10 +83,10 @@ call_recorded_holds ends world call proper holds fair truthful =
 -- what it hands out was made
 call_hands : (ends : Ends) (before after : World) (call : Call) → AreProper ends → Holds ends before → Holds ends after
     → after.facts ≡ before.facts ++ option_to_list (change_of ends.rules (sum_in ends before) call before.time)
-    → All (Contains (map token_of (tokens_in ends after))) (handed_by (answer_of ends.rules (sum_in ends before) call before.time))
+    → All (IsMade (tokens_in ends after)) (handed_by (answer_of ends.rules (sum_in ends before) call before.time))
 call_hands ends before after call proper holds later same =
     All-weaker (IsOwedAfter (sum_in ends before) (change_of ends.rules (sum_in ends before) call before.time))
-    (Contains (map token_of (tokens_in ends after)))
+    (IsMade (tokens_in ends after))
     (λ m owed. handed_made ends before after (change_of ends.rules (sum_in ends before) call before.time) m later same owed)
     (handed_by (answer_of ends.rules (sum_in ends before) call before.time))
     (calls_regular ends.rules (sum_in ends before) call before.time proper.rules holds.kept.whole).hands
@@ -111,7 +111,7 @@ name_text None h = tt
 name_text (Some name) h = h name refl
 
 -- what is written of a message has its claims
-message_text : (ends : Ends) (world : World) (m : Token) → AreProper ends → Holds ends world → Contains (map token_of (tokens_in ends world)) m
+message_text : (ends : Ends) (world : World) (m : Token) → AreProper ends → Holds ends world → IsMade (tokens_in ends world) m
     → claims_of (token_text m.claims ends.rules.key) ≡ m.claims
 message_text ends world m proper holds there =
     let ours : IsOurs ends.rules.issuer ends.store_id m.stream m.number m.claims =
@@ -119,18 +119,14 @@ message_text ends world m proper holds there =
     written_claims m.claims ends.rules.key ours.proper (name_text ends.rules.key.kid proper.kid)
 
 -- a message's claims are those of a token
-claims_there : (tokens : List Made) (m : Token) → Contains (map token_of tokens) m → Contains (map claims_made tokens) m.claims
-claims_there tokens m there =
-    All-contains (λ (t : Token). Contains (map claims_made tokens) t.claims) (map token_of tokens) m
-    (All-map (λ (t : Token). Contains (map claims_made tokens) t.claims) token_of tokens
-    (All-weaker (Contains tokens) (λ (t : Made). Contains (map claims_made tokens) t.claims) (λ t h. image claims_made tokens t h) tokens (All-contains_itself tokens)))
-    there
+claims_there : (tokens : List Made) (m : Token) → IsMade tokens m → Contains (map claims_made tokens) m.claims
+claims_there tokens m there = image claims_made tokens (made_in m) there
 
 -- why a message is refused, where it is
 abbrev fault_of : Ends → Token → Option Fault
 fault_of ends m = first_failing (checks ends.trust (Some m.claims.iss) None (token_text m.claims ends.rules.key))
 
-message_recorded : (ends : Ends) (world : World) (m : Token) → AreProper ends → Holds ends world → Contains (map token_of (tokens_in ends world)) m
+message_recorded : (ends : Ends) (world : World) (m : Token) → AreProper ends → Holds ends world → IsMade (tokens_in ends world) m
     → Holds ends (delivery_recorded ends (Some m) world)
 message_recorded ends world m proper holds there = record {
   kept = holds.kept;
@@ -142,7 +138,7 @@ message_recorded ends world m proper holds there = record {
   early = holds.early;
 }
 
-message_told : (ends : Ends) (world : World) (m : Token) → AreProper ends → Holds ends world → Contains (map token_of (tokens_in ends world)) m
+message_told : (ends : Ends) (world : World) (m : Token) → AreProper ends → Holds ends world → IsMade (tokens_in ends world) m
     → Holds ends (delivery_recorded ends (Some m) world)
     → Holds ends (delivery_told ends (Some m) world (delivery_recorded ends (Some m) world))
 message_told ends world m proper holds there after =
@@ -163,7 +159,7 @@ message_told ends world m proper holds there after =
 
 -- a message that was made
 abbrev IsMessage : Ends → World → Option Token → Type 0
-IsMessage ends world o = (m : Token) → o ≡ Some m → Contains (map token_of (tokens_in ends world)) m
+IsMessage ends world o = (m : Token) → o ≡ Some m → IsMade (tokens_in ends world) m
 
 -- an answer to one
 abbrev IsAnswer : Ends → World → Option Reply → Type 0
@@ -171,7 +167,7 @@ IsAnswer ends world o = (r : Reply) → o ≡ Some r → IsHeard (tokens_in ends
 
 message_at : (ends : Ends) (world : World) (place : ℕ) → Holds ends world → IsMessage ends world (slice_get world.messages place)
 message_at ends world place holds m is =
-    at_place (Contains (map token_of (tokens_in ends world))) place world.messages m holds.held.handed is
+    at_place (IsMade (tokens_in ends world)) place world.messages m holds.held.handed is
 
 answer_at : (ends : Ends) (world : World) (place : ℕ) → Holds ends world → IsAnswer ends world (slice_get world.replies place)
 answer_at ends world place holds r is =

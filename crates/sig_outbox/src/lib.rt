@@ -10,6 +10,7 @@
 //! and time, which the layers above bring.
 #![tactic(auto)]
 
+mod dispatch;
 mod outbox;
 #[cfg(test)]
 mod tests;

@@ -2,10 +2,9 @@ ghost use Rattle.std.specs.Prelude.{◌≡◌, [], ◌∷◌, IfOk, length, map,
 ghost use Rattle.sig_json.specs.Answers.{Answers, result_map};
 
 use sig_json::Text;
+use crate::dispatch::dispatch;
 use sig_ledger::{Ledger, Prepared, Step};
-use sig_stream_calls::create;
 use sig_terms::{Call, PrepareFault, Rules};
-use sig_token_calls::{poll, publish, settle};
 use std::alloc::Global;
 use std::marker::Model;
 
@@ -56,20 +55,7 @@ impl Outbox {
     {
         // That a call's fact fits rests on books that are kept.
         self.ledger.books_are_kept();
-        match call {
-            Call::Create { client, want } => create(&mut self.ledger, rules, client, want, now),
-            Call::Poll {
-                client,
-                stream,
-                ask,
-            } => poll(&self.ledger, client, stream, ask),
-            Call::Publish { id, news } => publish(&mut self.ledger, id, news, now),
-            Call::Settle {
-                stream,
-                number,
-                outcome,
-            } => settle(&self.ledger, stream, *number, outcome),
-        }
+        dispatch(&mut self.ledger, rules, call, now)
     }
 
     /// Takes in the fact that was prepared last. It takes no memory.

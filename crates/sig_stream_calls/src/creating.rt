@@ -1,10 +1,10 @@
 //! How a client makes a stream.
 
-ghost use Rattle.std.specs.Prelude.{◌≡◌, [], IfOk, IfSome, Some};
+ghost use Rattle.std.specs.Prelude.{◌≡◌, IfOk, IfSome, Some, unwrap_or};
 ghost use Rattle.sig_json.specs.Answers.{Answers, result_map};
 ghost use Rattle.sig_terms.specs.declared.answer.Answer.TheVariants as answer;
 ghost use Rattle.sig_terms.specs.declared.fact.Fact.TheVariants as fact;
-ghost use Rattle.sig_history.specs.Streams.{client_in};
+ghost use Rattle.sig_terms.specs.declared.want.Delivery.TheVariants as delivery;
 ghost use Rattle.sig_calls.specs.Creating as table;
 ghost use Rattle.sig_calls.specs.Told.{outcome};
 ghost use Rattle.sig_ledger.specs.Books.{sum_in};
@@ -13,17 +13,21 @@ ghost use Rattle.sig_ledger.specs.Steps.{reply_in};
 
 use crate::clients::client_named;
 use sig_json::limits::{LAST_NUMBER, STREAMS_PER_CLIENT};
-use sig_json::{Items, Memory, Text, copy_items, copy_optional};
-use sig_ledger::{Ledger, Prepared, Spare, Step, client_in, stream_name};
-use sig_terms::{Answer, Client, Delivery, Fact, PrepareFault, Rules, StreamConf, Want};
+use crate::turn::{Turn, finish};
+use sig_json::{Memory, Text, copy_items, copy_optional};
+use sig_ledger::{Ledger, Step, stream_name};
+use sig_terms::{
+    Answer, Client, Delivery, Fact, PrepareFault, Rules, StreamConf, Want, copy_optional_items,
+};
 use std::alloc::Global;
 
-fn copy_requested(alloc: Global, texts: &Option<Items<Text>>) -> Result<Option<Items<Text>>, Memory>
-    ensures { IfOk result (λ c. c ≡ texts.now) }
+// The delivery that is wanted, poll where none is.
+fn delivery_of(alloc: Global, want: &Want) -> Result<Delivery, Memory>
+    ensures { IfOk result (λ d. d ≡ unwrap_or want.now.delivery delivery.Poll) }
 {
-    match texts {
-        None => Ok(None),
-        Some(items) => Ok(Some(copy_items(alloc, items)?)),
+    match &want.delivery {
+        None => Ok(Delivery::Poll),
+        Some(delivery) => delivery.copy(alloc),
     }
 }
 
@@ -41,36 +45,26 @@ fn conf_of(
         stream: stream_name(alloc, client.name.as_str(), number)?,
         iss: rules.issuer.copy(alloc)?,
         aud: copy_items(alloc, &client.aud)?,
-        requested: copy_requested(alloc, &want.requested)?,
-        delivery: want.delivery.unwrap_or(Delivery::Poll),
+        requested: copy_optional_items(alloc, &want.requested)?,
+        delivery: delivery_of(alloc, want)?,
         interval: rules.interval,
         defaults: rules.defaults,
         description: copy_optional(alloc, &want.description)?,
     })
 }
 
-// The step that makes a stream of this configuration.
-fn new_stream(alloc: Global, conf: StreamConf, now: u64) -> Result<Step, Memory>
-    ensures { IfOk result (λ step. step ≡ record {
-      answer = answer.Made conf;
-      change = Some (record {
-        fact = fact.Created conf now;
-        spare = record { client = client_in conf.stream; id = []; issued = [] };
-      });
-    }) }
+// What a client is told whose stream of this configuration is made.
+fn made_turn(alloc: Global, conf: StreamConf, now: u64) -> Result<Turn, Memory>
+    ensures { IfOk result (λ t. t ≡ record { answer = answer.Made conf; change = Some (fact.Created conf now) }) }
 {
     let again = conf.copy(alloc)?;
-    let client = Text::of(alloc, client_in(conf.stream.as_str()))?;
-    let prepared = Prepared::of(
-        Fact::Created {
-            conf: again,
-            time: now,
-        },
-        Spare::for_client(alloc, client),
-    );
-    Ok(Step {
+    let fact = Fact::Created {
+        conf: again,
+        time: now,
+    };
+    Ok(Turn {
         answer: Answer::Made { conf },
-        change: Some(prepared),
+        change: Some(fact),
     })
 }
 
@@ -94,11 +88,10 @@ fn create_for(
     if LAST_NUMBER <= number {
         return Err(PrepareFault::Number(LAST_NUMBER + 1));
     }
-    ledger.reserve_stream()?;
     let alloc = ledger.alloc();
     let conf = conf_of(alloc, rules, client, want, number + 1)?;
-    let step = new_stream(alloc, conf, now)?;
-    Ok(step)
+    let turn = made_turn(alloc, conf, now)?;
+    finish(ledger, turn)
 }
 
 /// How a client makes a stream (Shared Signals Framework 1.0, section 8.1.1.1).

@@ -1,4 +1,4 @@
-//! The calls that make and change streams (OpenID Shared Signals Framework 1.0, section 8.1).
+//! The calls that make and change streams (OpenID Shared Signals Framework 1.0, sections 8.1.1 to 8.1.3).
 //!
 //! It stands on `sig_ledger` for the state, and on `sig_calls` for how each call is answered: one file a call, and each
 //! public function answers by its line of that table.
@@ -8,6 +8,15 @@
 #![tactic(auto)]
 
 mod clients;
+mod configuring;
 mod creating;
+mod reading;
+mod statuses;
+mod subjects;
+mod turn;
 
+pub use configuring::{delete, patch, put};
 pub use creating::create;
+pub use reading::{read, read_all};
+pub use statuses::{get_status, set_status};
+pub use subjects::{add, remove};

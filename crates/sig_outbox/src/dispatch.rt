@@ -1,0 +1,49 @@
+//! Each call, and what answers it.
+
+ghost use Rattle.std.specs.Prelude.{◌≡◌, IfOk, IfSome};
+ghost use Rattle.sig_json.specs.Answers.{Answers, result_map};
+ghost use Rattle.sig_calls.specs.Table.{prepared_of};
+ghost use Rattle.sig_ledger.specs.Books.{sum_in};
+ghost use Rattle.sig_ledger.specs.Room.{HasRoom};
+ghost use Rattle.sig_ledger.specs.Steps.{reply_in};
+
+use sig_ledger::{Ledger, Step};
+use sig_stream_calls::{
+    add, create, delete, get_status, patch, put, read, read_all, remove, set_status,
+};
+use sig_terms::{Answer, Call, PrepareFault, Rules};
+use sig_token_calls::{deliver, hand, operator_status, poll, publish, settle, verify};
+
+/// How a call is answered at a time, and the fact that it makes. The ledger's books stay; room is made for the fact.
+#[tactic(auto, unfolding(sig_calls::specs::Table::told_of))]
+pub(crate) fn dispatch(
+    ledger: &mut Ledger,
+    rules: &Rules,
+    call: &Call,
+    now: u64,
+) -> Result<Step, PrepareFault>
+    ensures keeps { ledger.new.books ≡ ledger.old.books }
+    ensures answers { Answers PrepareFault.Memory (result_map reply_in result) (prepared_of rules.now (sum_in ledger.old.books) call.now now) }
+    ensures room { IfOk result (λ step. IfSome step.change (HasRoom (sum_in ledger.new.books).parts ledger.new.room)) }
+{
+    match call {
+        Call::Metadata => Ok(Step::only(Answer::Meta)),
+        Call::Create { client, want } => create(ledger, rules, client, want, now),
+        Call::ReadAll { client } => read_all(ledger, client),
+        Call::Read { client, stream } => read(ledger, client, stream),
+        Call::Patch { client, stream, want } => patch(ledger, client, stream, want),
+        Call::Put { client, stream, want } => put(ledger, client, stream, want),
+        Call::Delete { client, stream } => delete(ledger, client, stream),
+        Call::GetStatus { client, stream } => get_status(ledger, client, stream),
+        Call::SetStatus { client, stream, status, reason } => set_status(ledger, client, stream, *status, reason, now),
+        Call::Add { client, stream, subject } => add(ledger, client, stream, subject),
+        Call::Remove { client, stream, subject } => remove(ledger, client, stream, subject),
+        Call::Verify { client, stream, state } => verify(ledger, client, stream, state, now),
+        Call::Poll { client, stream, ask } => poll(ledger, client, stream, ask),
+        Call::Publish { id, news } => publish(ledger, id, news, now),
+        Call::OperatorStatus { stream, status, reason } => operator_status(ledger, stream, *status, reason, now),
+        Call::Deliver { stream } => deliver(ledger, stream),
+        Call::Hand { streams } => hand(ledger, streams),
+        Call::Settle { stream, number, outcome } => settle(ledger, stream, *number, outcome),
+    }
+}
