@@ -1,3 +1,4 @@
+pub mod Collected
 pub mod Cuts
 pub mod EndpointReading
 pub mod Ports

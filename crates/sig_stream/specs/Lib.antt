@@ -1,1 +1,4 @@
 pub mod Endpoints
+pub mod Publications
+pub mod Steps
+pub mod Wants

@@ -1,0 +1,22 @@
+ghost use Rattle.std.specs.Prelude.{◌≡◌};
+
+use sig_json::{MemoryRefusal, Text};
+
+/// Why a body is no publication.
+#[derive(Debug, PartialEq, Eq, Drop)]
+pub enum PublishFault {
+    /// The first of `publish_id`, `sub_id` and `events` that is missing or wrong; `body` where the body is no object.
+    Member(Text),
+    /// Out of memory.
+    Memory,
+}
+
+impl<R: MemoryRefusal> From<R> for PublishFault {
+    ghost use Rattle.sig_stream.specs.declared.publish_fault.PublishFault.TheVariants.{Memory};
+
+    ghost from_gives = { λ _ e. e ≡ Memory };
+
+    fn from(_refusal: R) -> PublishFault {
+        PublishFault::Memory
+    }
+}
