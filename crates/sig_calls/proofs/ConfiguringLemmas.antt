@@ -1,5 +1,5 @@
 -- A client that reads, changes and deletes its streams.
-use Rattle.std.proofs.Common.{◌≡◌, ℕ, List, true, false, Option, Some, None, IfSome, if◌then◌else◌, refl}
+use Rattle.std.proofs.Common.{◌≡◌, ℕ, List, true, false, Some, None, IfSome, if◌then◌else◌, refl}
 use Rattle.sig_terms.specs.declared.rules.Rules.{Rules}
 use Rattle.sig_terms.specs.declared.want.Want.{Want}
 use Rattle.sig_terms.specs.declared.configuration.StreamConf.{StreamConf}

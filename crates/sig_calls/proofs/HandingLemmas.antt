@@ -10,7 +10,7 @@ use Rattle.sig_terms.specs.declared.answer.Answer.TheVariants as answer
 use Rattle.sig_terms.specs.declared.call.Call.TheVariants.{Deliver, Hand}
 use Rattle.sig_terms.specs.declared.token.Token.{Token}
 use Rattle.sig_history.specs.Streams.{Stream, stands, token_of}
-use Rattle.sig_history.specs.Owed.{Sum, offered_by, owed_by, stream_named}
+use Rattle.sig_history.specs.Owed.{Sum, offered_by, stream_named}
 use Rattle.sig_history.specs.Whole.{IsWhole}
 use Rattle.sig_calls.specs.Handing.{delivering, first_names, handing, pushed_by}
 use Rattle.sig_calls.specs.Regular.{IsOwedAfter}

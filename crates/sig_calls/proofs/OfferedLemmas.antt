@@ -1,5 +1,5 @@
 -- What is handed out is what a stream offers, and a stream offers what it owes.
-use Rattle.std.proofs.Common.{option_to_list, ◌≡◌, sym, subst, ℕ, List, [], ◌∷◌, map, take, filter, flat_map, Option, Some, None, get_or, refl}
+use Rattle.std.proofs.Common.{option_to_list, sym, subst, ℕ, List, [], ◌∷◌, map, take, filter, flat_map, Option, Some, None, get_or}
 use Rattle.std.specs.Option.{option_map_or}
 use Rattle.std.specs.Prelude.{All, Contains}
 use Rattle.std.proofs.lemmas.List.Elements.{All-append, All-contains_itself, All-filter, All-map, All-nil, All-take}

@@ -1,5 +1,5 @@
 -- A publication.
-use Rattle.std.proofs.Common.{◌≡◌, ℕ, List, map, true, false, Option, Some, None, if◌then◌else◌, refl}
+use Rattle.std.proofs.Common.{ℕ, List, map, true, false, Option, Some, None, if◌then◌else◌, refl}
 use Rattle.sig_event.specs.News.{is_same_news}
 use Rattle.sig_event.specs.declared.news.News.{News}
 use Rattle.sig_terms.specs.declared.rules.Rules.{Rules}

@@ -1,5 +1,5 @@
 -- Facts that settle tokens: they fit where they name what is owed.
-use Rattle.std.proofs.Common.{◌≡◌, ◌∙◌, ap, sym, ℕ, ◌≤◌, List, [], ◌∷◌, true, false, ◌&&◌, ◌==◌, Option, IfSome, is_none, bytes_eq, refl, Bool}
+use Rattle.std.proofs.Common.{◌≡◌, ap, sym, ℕ, List, [], ◌∷◌, true, false, ◌&&◌, ◌==◌, Option, IfSome, is_none, bytes_eq, refl, Bool}
 use Rattle.std.specs.Prelude.{All, Contains}
 use Rattle.std.specs.List.{list_any}
 use Rattle.std.proofs.lemmas.Bool.{and_from, and_parts}

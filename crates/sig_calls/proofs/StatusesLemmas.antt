@@ -1,5 +1,5 @@
 -- How a status is read and set.
-use Rattle.std.proofs.Common.{◌≡◌, ◌+◌, ℕ, List, true, false, Option, Some, None, if◌then◌else◌, refl}
+use Rattle.std.proofs.Common.{◌+◌, ℕ, List, true, false, Option, Some, None, if◌then◌else◌, refl}
 use Rattle.sig_event.specs.declared.status.Status.{Status}
 use Rattle.sig_terms.specs.declared.rules.Rules.{Rules}
 use Rattle.sig_terms.specs.declared.answer.Answer.TheVariants as answer

@@ -1,5 +1,5 @@
 -- A client that adds subjects and removes them.
-use Rattle.std.proofs.Common.{◌≡◌, ℕ, List, true, false, Option, Some, None, IfSome, if◌then◌else◌, refl}
+use Rattle.std.proofs.Common.{◌≡◌, ℕ, List, true, false, Some, None, IfSome, if◌then◌else◌, refl}
 use Rattle.sig_subject.specs.declared.subject.Subject.{Subject}
 use Rattle.sig_terms.specs.declared.rules.Rules.{Rules}
 use Rattle.sig_terms.specs.declared.answer.Answer.TheVariants as answer

@@ -1,5 +1,5 @@
 -- Whether two configurations have the same parts that a receiver may set.
-use Rattle.std.specs.Prelude.{ℕ, Bool, true, false, ◌&&◌, bytes_eq, nat_eq}
+use Rattle.std.specs.Prelude.{Bool, true, false, ◌&&◌, bytes_eq, nat_eq}
 use Rattle.std.specs.Bool.{beq}
 use Rattle.std.specs.Cmp.Lexicographic.{pointwise}
 use Rattle.std.specs.Option.{option_eq}

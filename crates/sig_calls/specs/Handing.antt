@@ -1,5 +1,5 @@
 -- How tokens are handed to a round of pushes (RFC 8935, section 2).
-use Rattle.std.specs.Prelude.{ℕ, List, [], ◌∷◌, Option, None, Some, bytes_eq, flat_map, map, take, if◌then◌else◌}
+use Rattle.std.specs.Prelude.{ℕ, List, [], ◌∷◌, bytes_eq, flat_map, map, take, if◌then◌else◌}
 use Rattle.std.specs.List.{list_any}
 use Rattle.std.specs.Option.{option_map_or}
 use Rattle.sig_json.specs.declared.limits.TheConstants.{TOKENS_PER_PAGE}

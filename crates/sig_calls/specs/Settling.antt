@@ -1,5 +1,5 @@
 -- What settles tokens: the answer to one that was brought to its receiver (RFC 8935, section 2).
-use Rattle.std.specs.Prelude.{ℕ, List, [], ◌∷◌, ◌||◌, Bool, false, Option, Some, None, codes, bytes_eq, length, if◌then◌else◌}
+use Rattle.std.specs.Prelude.{ℕ, List, [], ◌∷◌, ◌||◌, Bool, Option, Some, None, codes, bytes_eq, length, if◌then◌else◌}
 use Rattle.std.specs.Option.{option_to_list}
 use Rattle.sig_terms.specs.declared.call.Outcome.{Outcome}
 use Rattle.sig_terms.specs.declared.call.Outcome.TheVariants.{Accepted, Reported, Keep}

@@ -1,6 +1,6 @@
 -- How the status of a stream is read and set, by its client and by the operator (Shared Signals Framework 1.0, sections 8.1.2
 -- and 8.1.5).
-use Rattle.std.specs.Prelude.{◌+◌, ℕ, List, Bool, true, false, Option, None, Some, if◌then◌else◌}
+use Rattle.std.specs.Prelude.{◌+◌, ℕ, List, true, false, Option, None, Some, if◌then◌else◌}
 use Rattle.sig_event.specs.declared.status.Status.{Status}
 use Rattle.sig_terms.specs.declared.answer.Answer.{Answer}
 use Rattle.sig_terms.specs.declared.answer.Answer.TheVariants as answer

@@ -3,11 +3,9 @@ use Rattle.std.proofs.Common.{◌≡◌, ◌∙◌, ap, sym, subst, ℕ, ◌+◌
 use Rattle.std.specs.Prelude.{nat_le, nat_lt}
 use Rattle.sig_json.specs.declared.limits.TheConstants.{LAST_NUMBER, STREAMS_PER_CLIENT}
 use Rattle.sig_terms.specs.Deliveries.{is_push}
-use Rattle.sig_terms.specs.declared.configuration.StreamConf.{StreamConf}
 use Rattle.sig_terms.specs.declared.want.Want.{Want}
 use Rattle.sig_terms.specs.declared.rules.Client.{Client}
 use Rattle.sig_terms.specs.declared.rules.Rules.{Rules}
-use Rattle.sig_terms.specs.declared.answer.Answer.{Answer}
 use Rattle.sig_terms.specs.declared.answer.Answer.TheVariants as answer
 use Rattle.sig_terms.specs.declared.call.Call.{Call}
 use Rattle.sig_terms.specs.declared.call.Call.TheVariants.{Create, ReadAll, Read, Patch, Put, Delete, GetStatus, SetStatus, Add, Remove, Verify, Poll}
@@ -15,7 +13,7 @@ use Rattle.sig_terms.specs.declared.call.PollAsk.{PollAsk}
 use Rattle.sig_terms.specs.declared.fact.Fact.{Fact}
 use Rattle.sig_terms.specs.declared.fact.Fact.TheVariants.{Asked, Created, Deleted}
 use Rattle.sig_history.specs.Streams.{Made, Stream, client_in, created_by, is_disabled, stands, streams_of}
-use Rattle.sig_history.specs.Facts.{made_by, tells, time_of, token_by, token_for, verified_news}
+use Rattle.sig_history.specs.Facts.{made_by, token_by, token_for, verified_news}
 use Rattle.sig_history.specs.Owed.{Sum, empty_sum, owed_by, owed_in, stream_named, sum_of}
 use Rattle.sig_isolation.specs.Isolation.{AnswersAreIsolated, Part, PartsAreIsolated, concerns, is_call_of, is_of_client, part_of}
 use Rattle.sig_calls.specs.Configuring.{patched, reading_all, reconfigured, replaced}
@@ -26,7 +24,7 @@ use Rattle.sig_calls.specs.Settling.{settled_fact}
 use Rattle.sig_calls.specs.Statuses.{state_of, status_set}
 use Rattle.sig_calls.specs.Subjects.{added_change, removed_change}
 use Rattle.sig_calls.specs.Table.{told_of}
-use Rattle.sig_calls.specs.Told.{Told, making, making_tokens, only, with_change}
+use Rattle.sig_calls.specs.Told.{Told, making_tokens, only, with_change}
 use Rattle.sig_calls.specs.Verifying.{asked_after, asked_of, next_time, verifying}
 use Rattle.sig_history.proofs.StreamLemmas.{same_text}
 use Rattle.sig_calls.proofs.ChangedLemmas.{left_by, left_offered, offered_from}

@@ -3,7 +3,7 @@ use Rattle.std.proofs.Common.{◌≡◌, ◌∙◌, ap, sym, ℕ, List, [], ◌�
 use Rattle.std.proofs.lemmas.Bool.{false_from_ne_true, or_cases}
 use Rattle.sig_event.specs.declared.news.News.{News}
 use Rattle.sig_terms.specs.declared.fact.Fact.{Fact}
-use Rattle.sig_terms.specs.declared.fact.Fact.TheVariants.{Created, Configured, StatusSet, Listed, Unlisted, Deleted, Published, Settled, Asked}
+use Rattle.sig_terms.specs.declared.fact.Fact.TheVariants.{Configured, StatusSet, Listed, Unlisted, Deleted, Published, Settled, Asked}
 use Rattle.sig_history.specs.Streams.{Stream, Made, client_in, is_disabled, is_named, list_added, list_removed, stands, with_asked, with_conf, with_listed, with_status}
 use Rattle.sig_history.specs.Facts.{changed_by, configured, of_named, removed_by, stream_after, tells, told_one, updated_news, verified_news, without}
 use Rattle.sig_history.specs.Owed.{names_number, stream_named, takes_off}
