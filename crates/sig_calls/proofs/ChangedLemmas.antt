@@ -9,16 +9,13 @@ use Rattle.sig_history.specs.Facts.{parts_after, stream_after}
 use Rattle.sig_history.specs.Owed.{Sum, is_of, offered_by, offers, owed_after, owed_by, stream_named, sum_of, survives, takes_off}
 use Rattle.sig_calls.specs.Settling.{settled_fact}
 use Rattle.sig_history.proofs.JoinLemmas.{filter_same, found}
+use Rattle.sig_history.proofs.StepLemmas.{filter_all}
 use Rattle.sig_calls.proofs.SilentLemmas.{none_made}
 
 -- tokens without those that a fact takes off
 abbrev pub left_by : List ℕ → Option Fact → List Made → List Made
 left_by name None ts = ts
 left_by name (Some f) ts = filter (λ (t : Made). not (takes_off name f t)) ts
-
-filter_all : (p : Made → Bool) → ((t : Made) → p t ≡ true) → (ts : List Made) → filter p ts ≡ ts
-filter_all p all [] = refl
-filter_all p all (t ∷ ts) = rw (all t) (ap (λ l. t ∷ l) (filter_all p all ts))
 
 -- no settlement changes a stream
 streams_same : (name : List ℕ) (items : List SettledItem) (ss : List Stream) → map (stream_after (Settled name items)) ss ≡ ss

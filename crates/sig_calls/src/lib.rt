@@ -7,6 +7,10 @@
 //! Promised by `laws`: the fact of a call fits and is as the rules have it, its answer hands out what is owed, and it counts as
 //! acknowledged only what the call says was taken; a call is refused for its numbers exactly where its fact would give one above
 //! 2^62. `sig_isolation` says what keeps clients apart.
+//!
+//! What a call is told has one of four shapes: it changes nothing, makes a fact that tells no stream anything, makes one with
+//! tokens, or settles tokens. `proofs/ToldLemmas` and `proofs/SettledLemmas` prove the laws of each shape, so a new call is a file
+//! of definitions, a file of proofs that names its shape, and a line in `specs/Table` and in `proofs/RegularLemmas`.
 #![tactic(auto)]
 
 pub mod laws;
