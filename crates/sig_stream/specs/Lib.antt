@@ -1,3 +1,4 @@
+pub mod Configurations
 pub mod Endpoints
 pub mod Publications
 pub mod Steps

@@ -1,6 +1,7 @@
 //! Streams.
 #![tactic(auto)]
 
+mod configuration;
 mod endpoint;
 pub mod laws;
 mod publication;
@@ -8,6 +9,7 @@ mod publish_fault;
 mod want;
 mod want_fault;
 
+pub use configuration::conf_json;
 pub use endpoint::endpoint_of;
 pub use publication::publish_of;
 pub use publish_fault::PublishFault;
