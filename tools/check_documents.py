@@ -1,8 +1,12 @@
 #!/usr/bin/env -S python3 -B
-"""The documents agree with the repository: its crates, files, names, examples and the picture of its layers."""
+"""The documents agree with the repository: its crates, files, names, examples, wrong bodies and the picture of its layers.
+
+With the word `write` the list of wrong bodies goes into docs/PROMISES.md, in the place of the one that is there.
+"""
 import os
 import re
 import sys
+import textwrap
 
 from draw_crates import TOP, crates, framed, kit
 
@@ -139,7 +143,42 @@ def check_contract(crate, cell, words):
                 tell("docs/PROMISES.md", f"{crate}: no {word} in its sources ({code})")
 
 
+def wrong_bodies(crate):
+    """The names of the wrong bodies of a crate."""
+    folder = os.path.join(TOP, "crates", crate, "must-fail")
+    files = os.listdir(folder) if os.path.isdir(folder) else []
+    return sorted(file.removesuffix(".edit") for file in files if file.endswith(".edit"))
+
+
+def listed_bodies():
+    """The list of wrong bodies, as docs/PROMISES.md has it: a line for each crate, with their number and their names."""
+    told = [(crate, wrong_bodies(crate)) for crate in crates()]
+    items = [f"- `{crate}`, {len(names)}: {', '.join(names)}." for crate, names in told if names]
+    fill = {"width": 120, "subsequent_indent": "  ", "break_on_hyphens": False, "break_long_words": False}
+    return "".join(textwrap.fill(item, **fill) + "\n" for item in items)
+
+
+BODIES = re.compile(r"^(- `\w+`, \d+: .*\n(  .*\n)*)+", re.M)
+
+
+def check_bodies(text):
+    """The wrong bodies are those that stand beside the crates, and so is their number."""
+    number = sum(len(wrong_bodies(crate)) for crate in crates())
+    if f"They are {number}, named for what each does." not in text or BODIES.search(text)[0] != listed_bodies():
+        tell("docs/PROMISES.md", f"its {number} wrong bodies aren't those of the crates; with the word write they are")
+
+
+def write_bodies():
+    number = sum(len(wrong_bodies(crate)) for crate in crates())
+    text = BODIES.sub(lambda _: listed_bodies(), text_of("docs/PROMISES.md"), count=1)
+    text = re.sub(r"They are \d+, named for", f"They are {number}, named for", text)
+    with open(os.path.join(TOP, "docs/PROMISES.md"), "w", encoding="utf-8") as file:
+        file.write(text)
+
+
 def main():
+    if sys.argv[1:] == ["write"]:
+        write_bodies()
     for document in DOCUMENTS:
         text = text_of(document)
         check_links(document, text)
@@ -148,6 +187,7 @@ def main():
     check_help(text_of("signals"))
     check_picture(text_of("docs/ARCHITECTURE.md"))
     check_promises(text_of("docs/PROMISES.md"))
+    check_bodies(text_of("docs/PROMISES.md"))
     print("\n".join(faults) or "documents: ok")
     sys.exit(1 if faults else 0)
 
