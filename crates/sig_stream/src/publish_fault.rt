@@ -1,13 +1,16 @@
 ghost use Rattle.std.specs.Prelude.{◌≡◌};
 
 use sig_json::{MemoryRefusal, Text};
+use thiserror::Error;
 
 /// Why a body is no publication.
-#[derive(Debug, PartialEq, Eq, Drop)]
+#[derive(Debug, PartialEq, Eq, Drop, Error)]
 pub enum PublishFault {
     /// The first of `publish_id`, `sub_id` and `events` that is missing or wrong; `body` where the body is no object.
+    #[error("a member is missing or wrong")]
     Member(Text),
     /// Out of memory.
+    #[error("out of memory")]
     Memory,
 }
 
