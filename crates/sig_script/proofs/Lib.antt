@@ -1,4 +1,3 @@
 mod NumberLemmas
 mod TextLemmas
-mod ReadPublications
 mod ProperLines
