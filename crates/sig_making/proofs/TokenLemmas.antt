@@ -40,24 +40,20 @@ largest_more sid f bs i d within =
     ∙ largest_join (tokens_on sid f (map stream_of (take i bs))) (tokens_on sid f (stream_of (get_or bs i d) ∷ []))
     ∙ ap (max (largest (tokens_on sid f (map stream_of (take i bs))))) (one_on sid f (stream_of (get_or bs i d)))
 
--- a stream that isn't told gets none, and one that is gets one
-pub untold_size : (sid : List ℕ) (f : Fact) (s : Stream) → is_told f s ≡ false → 0 ≡ largest (token_for sid f s)
-untold_size sid f s no = sym (ap (λ b. largest (token_by sid (time_of f) s (if b then said_by f else None))) no)
-
 -- a fact that tells nothing makes nothing
 pub silent_size : (sid : List ℕ) (f : Fact) (ss : List Stream) → said_by f ≡ None → 0 ≡ largest (tokens_on sid f ss)
 silent_size sid f [] none = refl
 silent_size sid f (s ∷ ss) none =
     silent_size sid f ss none ∙ ap (λ l. largest (l ++ tokens_on sid f ss)) (sym (no_token sid f s none))
   where
-    both : {X : Type 0} (b : Bool) → (if b then None else None) ≡ None {X}
-    both true = refl
-    both false = refl
+    both : (b : Bool) (o : Option News) → (if b then o else o) ≡ o
+    both true o = refl
+    both false o = refl
 
     no_token : (sid : List ℕ) (f : Fact) (s : Stream) → said_by f ≡ None → token_for sid f s ≡ []
     no_token sid f s none =
         ap (λ (o : Option News). token_by sid (time_of f) s (if is_told f s then o else None)) none
-        ∙ ap (token_by sid (time_of f) s) (both (is_told f s))
+        ∙ ap (token_by sid (time_of f) s) (both (is_told f s) None)
 
 -- ---- numbers that are too great
 
@@ -109,10 +105,10 @@ all_numbered b bs held kept =
     (subst (λ os. AreWhole b.store_id b.created (map stream_in (map (standing_of b.store_id b.published) os)) (map owed_in_standing (map (standing_of b.store_id b.published) os)))
     (sym held) kept.whole)
 
-pub size_from : (b : Books) (bs : List Balance) (sid : List ℕ) (size : ℕ) (f : Fact) → size ≡ largest (tokens_on sid f (map stream_of bs))
-    → sid ≡ b.store_id → map owing_in bs ≡ b.owings → size ≡ largest (made_by (sum_in b).parts f)
-size_from b bs sid size f is store held =
-    is ∙ ap (λ ss. largest (tokens_on sid f ss)) (streams_held b bs held) ∙ ap (λ k. largest (tokens_on k f (sum_in b).parts.streams)) store
+pub size_same : (b : Books) (bs : List Balance) (sid : List ℕ) (f : Fact) → sid ≡ b.store_id → map owing_in bs ≡ b.owings
+    → largest (tokens_on sid f (map stream_of bs)) ≡ largest (made_by (sum_in b).parts f)
+size_same b bs sid f store held =
+    ap (λ ss. largest (tokens_on sid f ss)) (streams_held b bs held) ∙ ap (λ k. largest (tokens_on k f (sum_in b).parts.streams)) store
 
 pub past_from : (b : Books) (bs : List Balance) (f : Fact) (full : Bool) → full ≡ list_any (is_full f) (map stream_of bs) → map owing_in bs ≡ b.owings
     → full ≡ list_any is_past (made_by (sum_in b).parts f)

@@ -1,8 +1,9 @@
 //! How a call is answered whose fact makes tokens.
 
-ghost use Rattle.std.specs.Prelude.{◌≡◌, IfOk, IfSome, map};
+ghost use Rattle.std.specs.Prelude.{◌≡◌, IfOk, IfSome, map, nat_lt};
 ghost use Rattle.std.specs.List.{list_any};
 ghost use Rattle.sig_json.specs.Answers.{Answers, result_map};
+ghost use Rattle.sig_json.specs.declared.limits.TheConstants.{PAYLOAD_BYTES};
 ghost use Rattle.sig_history.specs.Facts.{made_by};
 ghost use Rattle.sig_history.specs.Sound.{is_past};
 ghost use Rattle.sig_calls.specs.Told.{making, outcome};
@@ -35,6 +36,13 @@ pub fn goes_past(ledger: &Ledger, fact: &Fact) -> bool
     any_full(ledger.accounts(), fact)
 }
 
+// Whether a payload of so many bytes is too long for a token.
+fn is_long(size: usize) -> bool
+    ensures { result ≡ nat_lt PAYLOAD_BYTES size }
+{
+    size > PAYLOAD_BYTES
+}
+
 /// How a call is answered whose fact makes tokens: by `Long` where one of them would have a payload of more than 6,000 bytes,
 /// and else as the call says.
 ///
@@ -46,7 +54,7 @@ pub fn make(ledger: &mut Ledger, answer: Answer, fact: Fact) -> Result<Step, Pre
     ensures room { IfOk result (λ step. IfSome step.change (HasRoom (sum_in ledger.new.books).parts ledger.new.room)) }
 {
     let size = largest_payload(ledger, &fact)?;
-    if size > PAYLOAD_BYTES {
+    if is_long(size) {
         return Ok(Step::only(Answer::Long { size: size as u64 }));
     }
     if goes_past(ledger, &fact) {

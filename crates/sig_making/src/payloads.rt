@@ -47,14 +47,7 @@ fn payload_size(
         return Ok(0);
     }
     let number = account.made() + 1;
-    let claims = claims_for(
-        alloc,
-        store_id,
-        account.conf(),
-        number,
-        time_of(fact),
-        news,
-    )?;
+    let claims = claims_for(alloc, store_id, account.conf(), number, time_of(fact), news)?;
     let payload = payload_text(alloc, &claims)?;
     Ok(payload.as_slice().len())
 }
@@ -85,19 +78,27 @@ fn largest_on(
     Ok(most)
 }
 
+// The bytes of the largest payload of the tokens that tell news.
+fn largest_told(ledger: &Ledger, fact: &Fact, news: &Option<News>) -> Result<usize, Memory>
+    requires { said_by fact.now ≡ news.now }
+    ensures { IfOk result (λ n. n ≡ largest (made_by (sum_in ledger.now.books).parts fact.now)) }
+{
+    match news {
+        None => Ok(0),
+        Some(news) => largest_on(
+            ledger.alloc(),
+            ledger.store_id(),
+            ledger.accounts(),
+            fact,
+            news,
+        ),
+    }
+}
+
 /// The bytes of the largest payload of the tokens that a fact would make, 0 where it would make none.
 pub fn largest_payload(ledger: &Ledger, fact: &Fact) -> Result<usize, Memory>
     ensures { IfOk result (λ n. n ≡ largest (made_by (sum_in ledger.now.books).parts fact.now)) }
 {
-    let alloc = ledger.alloc();
-    match news_of(alloc, fact)? {
-        None => Ok(0),
-        Some(news) => largest_on(
-            alloc,
-            ledger.store_id(),
-            ledger.accounts(),
-            fact,
-            &news,
-        ),
-    }
+    let news = news_of(ledger.alloc(), fact)?;
+    largest_told(ledger, fact, &news)
 }
