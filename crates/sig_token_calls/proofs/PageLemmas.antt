@@ -1,5 +1,5 @@
 -- A page of tokens.
-use Rattle.std.proofs.Common.{◌≡◌, ◌∙◌, ap, sym, ℕ, zero, suc, ◌+◌, ◌-◌, ◌==◌, ◌<◌, ◌≤◌, List, [], ◌∷◌, ◌++◌, length, map, filter, take, drop, get_or, Bool, true, false, nat_lt, if◌then◌else◌, refl, append-nil, append_assoc, arith, add-one}
+use Rattle.std.proofs.Common.{◌≡◌, ◌∙◌, ap, sym, ℕ, zero, suc, ◌+◌, ◌-◌, ◌==◌, ◌<◌, ◌≤◌, List, [], ◌∷◌, ◌++◌, length, map, filter, take, drop, get_or, Bool, true, false, not, ◌&&◌, nat_lt, if◌then◌else◌, refl, append-nil, append_assoc, arith, add-one}
 use Rattle.std.specs.Option.{option_to_list}
 use Rattle.std.specs.Prelude.{Option, None, Some}
 use Rattle.std.specs.List.{filter_map, cons_option}
@@ -10,9 +10,11 @@ use Rattle.std.proofs.lemmas.List.Elements.{filter_map-append}
 use Rattle.sig_ledger.specs.declared.debt.Debt.{Debt}
 use Rattle.sig_terms.specs.declared.token.Token.{Token}
 use Rattle.sig_terms.specs.declared.want.Delivery.{Delivery}
-use Rattle.sig_history.specs.Streams.{Made, token_of}
+use Rattle.sig_terms.specs.declared.fact.SettledItem.{SettledItem}
+use Rattle.sig_history.specs.Streams.{Stream, Publication, Made, token_of}
+use Rattle.sig_history.specs.Owed.{names_number}
 use Rattle.sig_token_calls.specs.declared.offering.Page.{Page}
-use Rattle.sig_token_calls.specs.Offering.{page_on}
+use Rattle.sig_token_calls.specs.Offering.{offers, page_on}
 
 -- the page when these tokens are on it already and there is room for so many more
 abbrev pub page_step : Delivery → ℕ → List Token → List Made → Page
@@ -109,3 +111,11 @@ pub items_more : {X Y : Type 0} (f : X → Option Y) (xs : List X) (i : ℕ) (d 
 items_more f xs i d within =
     ap (filter_map f) (take_more xs i d within) ∙ filter_map-append f (take i xs) (get_or xs i d ∷ [])
     ∙ ap (λ l. filter_map f (take i xs) ++ l) (one_item f (get_or xs i d))
+
+-- ---- debts that are open
+
+-- what was looked up in the numbers is what the items name
+pub open_from : (items : List SettledItem) (published : List Publication) (s : Stream) (named : ℕ → Bool) (d : Debt) (open t : Bool)
+    → ((n : ℕ) → named n ≡ names_number n items) → open ≡ (not (named d.number) && offers published s d) → open ≡ t
+    → (not (names_number d.number items) && offers published s d) ≡ t
+open_from items published s named d open t same is how = ap (λ b. not b && offers published s d) (sym (same d.number)) ∙ sym is ∙ how

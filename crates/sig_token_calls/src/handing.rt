@@ -10,7 +10,7 @@ ghost use Rattle.sig_ledger.specs.Books.{sum_in};
 ghost use Rattle.sig_ledger.specs.Room.{HasRoom};
 ghost use Rattle.sig_ledger.specs.Steps.{reply_in};
 
-use crate::offering::page;
+use crate::offering::{first_offered, is_pushed};
 use indexmap::IndexSet;
 use sig_json::limits::TOKENS_PER_PAGE;
 use sig_json::{Items, Memory, Text};
@@ -28,7 +28,7 @@ pub fn deliver(ledger: &Ledger, stream: &Text) -> Result<Step, PrepareFault>
     match ledger.account(stream.as_str()) {
         None => Ok(Step::only(Answer::NotFound)),
         Some(account) => {
-            if !account.conf().delivery.is_push() {
+            if !is_pushed(account) {
                 return Ok(Step::only(Answer::NotFound));
             }
             let stream = stream.copy(ledger.alloc())?;
@@ -45,10 +45,10 @@ fn pushed(ledger: &Ledger, name: &Text, size: usize) -> Result<Items<Token>, Mem
     match ledger.account(name.as_str()) {
         None => Ok(Items::of(Vec::new(alloc))),
         Some(account) => {
-            if !account.conf().delivery.is_push() {
+            if !is_pushed(account) {
                 return Ok(Items::of(Vec::new(alloc)));
             }
-            let page = page(
+            let page = first_offered(
                 alloc,
                 ledger.store_id(),
                 ledger.published(),

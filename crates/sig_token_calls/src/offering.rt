@@ -1,8 +1,9 @@
 //! Which tokens that a stream owes it offers, and a page of them (OpenID Shared Signals Framework 1.0, section 8.1.2).
 
-ghost use Rattle.std.specs.Prelude.{◌≡◌, ◌&&◌, All, IfOk, ℕ, length, map, nat_eq, not};
+ghost use Rattle.std.specs.Prelude.{◌≡◌, ◌&&◌, All, IfOk, ℕ, List, length, map, nat_eq, not};
 ghost use Rattle.indexmap.specs.IndexSet.{contains};
 ghost use Rattle.sig_history.specs.Owed.{names_number};
+ghost use Rattle.sig_terms.specs.Deliveries.{is_push};
 ghost use Rattle.sig_ledger.specs.Books.{IsPlaced, made_of};
 ghost use Rattle.sig_token_calls.specs.Offering as offering;
 ghost use Rattle.sig_token_calls.specs.Offering.{open_debts, page_on};
@@ -21,6 +22,13 @@ pub(crate) struct Page {
     pub tokens: Items<Token>,
     /// Whether it offers further ones.
     pub more: bool,
+}
+
+/// Whether the tokens of a stream are pushed (RFC 8935), and not polled.
+pub(crate) fn is_pushed(account: &Account) -> bool
+    ensures { result ≡ is_push account.now.owing.stream.conf.delivery }
+{
+    account.conf().delivery.is_push()
 }
 
 // Whether what a token says is that its stream's status changed.
@@ -74,7 +82,7 @@ fn numbers_of(alloc: Global, items: &[SettledItem]) -> Result<IndexSet<u64>, Mem
 
 /// The first tokens that a stream offers but for those that the items name, at most so many, and whether there are further
 /// ones. No further one is made.
-pub(crate) fn page(
+pub(crate) fn first_offered(
     alloc: Global,
     store_id: [u8; 16],
     published: &[Publication],

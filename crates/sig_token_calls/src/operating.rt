@@ -36,6 +36,44 @@ fn state_of(alloc: Global, stream: &Text, account: &Account) -> Result<Answer, M
     })
 }
 
+// The status that is set, with the number of the token that tells it.
+fn new_state(
+    alloc: Global,
+    stream: &Text,
+    status: Status,
+    reason: &Option<Text>,
+    number: u64,
+) -> Result<Answer, Memory>
+    ensures { IfOk result (λ a. a ≡ answer.State stream.now status reason.now (Some number)) }
+{
+    Ok(Answer::State {
+        stream: stream.copy(alloc)?,
+        status,
+        reason: copy_optional(alloc, reason)?,
+        token: Some(number),
+    })
+}
+
+// The operator's fact.
+fn status_fact(
+    alloc: Global,
+    stream: &Text,
+    status: Status,
+    reason: &Option<Text>,
+    now: u64,
+) -> Result<Fact, Memory>
+    ensures { IfOk result (λ f. f ≡ fact.StatusSet stream.now status reason.now true now) }
+{
+    let kept = copy_optional(alloc, reason)?;
+    Ok(Fact::StatusSet {
+        stream: stream.copy(alloc)?,
+        status,
+        reason: kept,
+        operator: true,
+        time: now,
+    })
+}
+
 // The status is set, and the token of this number tells it.
 fn set(
     ledger: &mut Ledger,
@@ -52,19 +90,8 @@ fn set(
     ensures room { IfOk result (λ step. IfSome step.change (HasRoom (sum_in ledger.new.books).parts ledger.new.room)) }
 {
     let alloc = ledger.alloc();
-    let answer = Answer::State {
-        stream: stream.copy(alloc)?,
-        status,
-        reason: copy_optional(alloc, reason)?,
-        token: Some(number),
-    };
-    let fact = Fact::StatusSet {
-        stream: stream.copy(alloc)?,
-        status,
-        reason: copy_optional(alloc, reason)?,
-        operator: true,
-        time: now,
-    };
+    let answer = new_state(alloc, stream, status, reason, number)?;
+    let fact = status_fact(alloc, stream, status, reason, now)?;
     make(ledger, answer, fact)
 }
 

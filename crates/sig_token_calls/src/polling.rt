@@ -12,7 +12,7 @@ ghost use Rattle.sig_ledger.specs.Steps.{reply_in};
 ghost use Rattle.sig_token_calls.specs.Replies.{polled_reply, settled_debts, told_as};
 ghost use Rattle.sig_token_calls.specs.Verdicts.{item_of};
 
-use crate::offering::page;
+use crate::offering::{first_offered, is_pushed};
 use crate::reply::Reply;
 use crate::settling::settled_change;
 use crate::verdicts::{read_verdicts, settled_item, token_prefix};
@@ -82,7 +82,7 @@ fn poll_account(
 {
     let items = settled_debts(alloc, store_id, account, ask)?;
     let size = page_size(ask);
-    let page = page(alloc, store_id, published, account, items.as_slice(), size)?;
+    let page = first_offered(alloc, store_id, published, account, items.as_slice(), size)?;
     let change = settled_change(alloc, stream, items)?;
     Ok(Reply {
         answer: Answer::Sets {
@@ -100,7 +100,7 @@ fn polled(ledger: &Ledger, client: &Text, stream: &Text, ask: &PollAsk) -> Resul
     match ledger.client_account(client, stream) {
         None => Ok(Reply::only(Answer::NotFound)),
         Some(account) => {
-            if account.conf().delivery.is_push() {
+            if is_pushed(account) {
                 return Ok(Reply::only(Answer::NotFound));
             }
             poll_account(

@@ -3,6 +3,7 @@
 ghost use Rattle.std.specs.Prelude.{◌≡◌, IfOk, IfSome, None};
 ghost use Rattle.sig_json.specs.Answers.{Answers, result_map};
 ghost use Rattle.sig_event.specs.News.{is_same_news};
+ghost use Rattle.sig_terms.specs.declared.fact.Fact.TheVariants as fact;
 ghost use Rattle.sig_calls.specs.Publishing as table;
 ghost use Rattle.sig_calls.specs.Told.{outcome};
 ghost use Rattle.sig_ledger.specs.Books.{sum_in};
@@ -46,6 +47,16 @@ fn answer_again(
     Ok(Answer::Published { store_id, tokens })
 }
 
+fn published_fact(alloc: Global, id: &Text, news: &News, now: u64) -> Result<Fact, Memory>
+    ensures { IfOk result (λ f. f ≡ fact.Published id.now news.now now) }
+{
+    Ok(Fact::Published {
+        id: id.copy(alloc)?,
+        news: news.copy(alloc)?,
+        time: now,
+    })
+}
+
 // How the first publication of a name is answered.
 fn publish_first(
     ledger: &mut Ledger,
@@ -58,12 +69,7 @@ fn publish_first(
         (outcome (table.published_after (sum_in ledger.old.books).parts id.now news.now now None)) }
     ensures room { IfOk result (λ step. IfSome step.change (HasRoom (sum_in ledger.new.books).parts ledger.new.room)) }
 {
-    let alloc = ledger.alloc();
-    let fact = Fact::Published {
-        id: id.copy(alloc)?,
-        news: news.copy(alloc)?,
-        time: now,
-    };
+    let fact = published_fact(ledger.alloc(), id, news, now)?;
     let tokens = ledger.issued_of(&fact)?;
     let answer = Answer::Published {
         store_id: ledger.store_id(),

@@ -13,10 +13,11 @@ ghost use Rattle.sig_ledger.specs.Steps.{reply_in};
 ghost use Rattle.sig_token_calls.specs.Replies as replies;
 
 use sig_event::Status;
-use sig_json::{Text, copy_optional};
+use sig_json::{Memory, Text, copy_optional};
 use sig_ledger::{Account, Ledger, Step};
 use sig_making::make;
 use sig_terms::{Answer, Fact, PrepareFault};
+use std::alloc::Global;
 
 // When the next verification may be asked for; a time that 64 bits can't hold is the greatest that they can.
 fn next_time(asked: u64, interval: u64) -> u64
@@ -59,6 +60,16 @@ fn early_answer(asked: Option<u64>, interval: u64, now: u64) -> Option<Answer>
     }
 }
 
+fn asked_fact(alloc: Global, stream: &Text, state: &Option<Text>, now: u64) -> Result<Fact, Memory>
+    ensures { IfOk result (λ f. f ≡ fact.Asked stream.now state.now now) }
+{
+    Ok(Fact::Asked {
+        stream: stream.copy(alloc)?,
+        state: copy_optional(alloc, state)?,
+        time: now,
+    })
+}
+
 // The verification of this number is made.
 fn ask(
     ledger: &mut Ledger,
@@ -77,11 +88,7 @@ fn ask(
         stream: stream.copy(alloc)?,
         number,
     };
-    let fact = Fact::Asked {
-        stream: stream.copy(alloc)?,
-        state: copy_optional(alloc, state)?,
-        time: now,
-    };
+    let fact = asked_fact(alloc, stream, state, now)?;
     make(ledger, answer, fact)
 }
 

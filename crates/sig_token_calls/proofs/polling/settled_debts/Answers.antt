@@ -1,6 +1,7 @@
 use Rattle.std.proofs.Common.{◌≡◌, ◌<◌, ◌^◌, ◌∙◌, ap, sym, ℕ, List, ◌++◌, Option, arith, rules, get_or}
 use Rattle.std.specs.Option.{option_to_list}
 use Rattle.sig_ledger.specs.declared.debt.Debt.{Debt}
+use Rattle.sig_ledger.specs.declared.debt.Said.TheVariants as said
 use Rattle.sig_terms.specs.declared.fact.SettledItem.{SettledItem}
 use Rattle.sig_history.specs.Streams.{jti_of}
 use Rattle.sig_calls.specs.Polling.{settled_by}
@@ -13,7 +14,7 @@ pub loop-debt-preserved : goal.loop-debt-preserved
 loop-debt-preserved c =
     let stream : List ℕ = c.args.account.now.owing.stream.conf.stream in
     let f : Debt → Option SettledItem = λ (d : Debt). settled_by c.args.ask.now d.number (jti_of c.args.store_id stream d.number) in
-    let none : Debt = record { number = 0; time = 0; place = 0 } in
+    let none : Debt = record { number = 0; time = 0; said = said.Published 0 } in
     let d : Debt = get_or c.owed-owed.result.now c.loop-debt.debt-index none in
     let small : d.number < 2 ^ 64 = search (rules, arith) in
     let same : c.as_str-stream.result.now ≡ stream = search rules in

@@ -1,5 +1,5 @@
 use Rattle.std.proofs.Common.{◌≡◌, take}
-use Rattle.sig_token_calls.specs.Steps.{settled_debts}
+use Rattle.sig_token_calls.specs.Replies.{settled_debts}
 use Rattle.sig_token_calls.proofs.polling.settled_debts.Given as goal
 
 abbrev pub invariant-loop-debt : goal.invariant-loop-debt
