@@ -1,6 +1,7 @@
 -- What the change of one stream leaves of all: a fact that names a stream leaves the others as they are.
-use Rattle.std.proofs.Common.{◌≡◌, ◌∙◌, ap, sym, ℕ, suc, ◌+◌, ◌<◌, List, [], ◌∷◌, ◌++◌, map, filter, length, take, drop, get_or, Bool, true, false, not, ◌&&◌, ◌||◌, bytes_eq, Option, Some, None, if◌then◌else◌, refl, append-nil, arith}
-use Rattle.std.specs.Prelude.{cond}
+use Rattle.std.proofs.Common.{◌≡◌, ◌∙◌, ap, sym, subst, ℕ, suc, ◌+◌, ◌<◌, List, [], ◌∷◌, ◌++◌, map, filter, length, take, drop, get_or, Bool, true, false, not, ◌&&◌, ◌||◌, bytes_eq, Option, Some, None, if◌then◌else◌, refl, append-nil, arith}
+use Rattle.std.specs.Prelude.{All, cond}
+use Rattle.std.proofs.lemmas.List.Elements.{All-get_or}
 use Rattle.std.specs.List.{position_or_len, remove}
 use Rattle.std.proofs.lemmas.Bool.{or_parts}
 use Rattle.std.proofs.lemmas.Slice.Eq.{bytes_eq-Decides}
@@ -20,7 +21,7 @@ use Rattle.sig_ledger.specs.declared.debt.Debt.{Debt}
 use Rattle.sig_ledger.specs.declared.debt.Said.{Said}
 use Rattle.sig_ledger.specs.declared.debt.Said.TheVariants as said
 use Rattle.sig_ledger.specs.Books.{Balance, Owing, first_changed, has_name, next_debt, notice_for, owing_after, owing_asked, owing_heard, owing_in, owing_noted, owing_set, owing_settled, owing_told, owing_with, stream_in}
-use Rattle.sig_ledger.specs.Room.{AreNumbers}
+use Rattle.sig_ledger.specs.Room.{AreNumbers, HasRoomFor, IsBelowTop}
 use Rattle.std.specs.List.{list_any}
 use Rattle.std.specs.Prelude.{nat_eq}
 use Rattle.sig_ledger.proofs.TextLemmas.{filter_alike, filter_all, filter_none, turned}
@@ -36,28 +37,51 @@ stands_at name (b ∷ bs) here =
       | false ↦ λ here. let rest : position_or_len (has_name name) bs < length bs = stands_at name bs here in omega arith
     ] here
 
-changed_first : (name : List ℕ) (g : Owing → Owing) (bs : List Balance) (new : Balance) → position_or_len (has_name name) bs < length bs
-    → new.owing ≡ g (get_or bs (position_or_len (has_name name) bs) new).owing
+named_first : (name : List ℕ) (bs : List Balance) (d : Balance) → position_or_len (has_name name) bs < length bs
+    → is_named name (get_or bs (position_or_len (has_name name) bs) d).owing.stream ≡ true
+named_first name [] d within = absurd (omega arith)
+named_first name (b ∷ bs) d within =
+    let place : ℕ = position_or_len (has_name name) bs in
+    let one : 1 + place ≡ suc place = omega arith in
+    elim (is_named name b.owing.stream) as (λ t. is_named name b.owing.stream ≡ t → cond (not t) (1 + place) 0 < length (b ∷ bs)
+    → is_named name (get_or (b ∷ bs) (cond (not t) (1 + place) 0) d).owing.stream ≡ true) [
+      | true ↦ λ is within. is
+      | false ↦ λ is within. ap (λ n. is_named name (get_or (b ∷ bs) n d).owing.stream) one ∙ named_first name bs d (omega arith)
+    ] refl within
+
+pub room_at : (name : List ℕ) (room : Balance → ℕ) (bs : List Balance) (place : ℕ) (old : Balance) → place ≡ position_or_len (has_name name) bs
+    → place < length bs → old ≡ get_or bs place old → All (HasRoomFor (is_named name) room) bs → 0 < room old
+room_at name room bs place old at within read rooms =
+    let first : position_or_len (has_name name) bs < length bs = omega arith in
+    let here : HasRoomFor (is_named name) room (get_or bs place old) = All-get_or (HasRoomFor (is_named name) room) bs place old within rooms in
+    subst (λ (b : Balance). 0 < room b) (sym read)
+    (here (ap (λ n. is_named name (get_or bs n old).owing.stream) at ∙ named_first name bs old first))
+
+pub top_at : (bs : List Balance) (place : ℕ) (old : Balance) → place < length bs → old ≡ get_or bs place old → All IsBelowTop bs → IsBelowTop old
+top_at bs place old within read tops = subst IsBelowTop (sym read) (All-get_or IsBelowTop bs place old within tops)
+
+changed_first : (name : List ℕ) (g : Owing → Owing) (bs : List Balance) (d new : Balance) → position_or_len (has_name name) bs < length bs
+    → new.owing ≡ g (get_or bs (position_or_len (has_name name) bs) d).owing
     → map owing_in (set bs (position_or_len (has_name name) bs) new) ≡ first_changed name g (map owing_in bs)
-changed_first name g [] new within is = absurd (omega arith)
-changed_first name g (b ∷ bs) new within is =
+changed_first name g [] d new within is = absurd (omega arith)
+changed_first name g (b ∷ bs) d new within is =
     let place : ℕ = position_or_len (has_name name) bs in
     let one : 1 + place ≡ suc place = omega arith in
     elim (is_named name b.owing.stream) as (λ t. cond (not t) (1 + place) 0 < length (b ∷ bs)
-    → new.owing ≡ g (get_or (b ∷ bs) (cond (not t) (1 + place) 0) new).owing
+    → new.owing ≡ g (get_or (b ∷ bs) (cond (not t) (1 + place) 0) d).owing
     → map owing_in (set (b ∷ bs) (cond (not t) (1 + place) 0) new)
     ≡ (if t then g b.owing ∷ map owing_in bs else b.owing ∷ first_changed name g (map owing_in bs))) [
       | true ↦ λ within is. ap (λ o. o ∷ map owing_in bs) is
       | false ↦ λ within is. ap (λ n. map owing_in (set (b ∷ bs) n new)) one
-          ∙ ap (λ l. b.owing ∷ l) (changed_first name g bs new (omega arith) (is ∙ ap (λ n. g (get_or (b ∷ bs) n new).owing) one))
+          ∙ ap (λ l. b.owing ∷ l) (changed_first name g bs d new (omega arith) (is ∙ ap (λ n. g (get_or (b ∷ bs) n d).owing) one))
     ] within is
 
 -- what is written at the place of a name changes the first of it
-pub changed_at : (name : List ℕ) (g : Owing → Owing) (bs : List Balance) (place : ℕ) (new : Balance) → place ≡ position_or_len (has_name name) bs
-    → place < length bs → new.owing ≡ g (get_or bs place new).owing → map owing_in (set bs place new) ≡ first_changed name g (map owing_in bs)
-changed_at name g bs place new at within is =
+pub changed_at : (name : List ℕ) (g : Owing → Owing) (bs : List Balance) (place : ℕ) (old new : Balance) → place ≡ position_or_len (has_name name) bs
+    → place < length bs → old ≡ get_or bs place old → new.owing ≡ g old.owing → map owing_in (set bs place new) ≡ first_changed name g (map owing_in bs)
+changed_at name g bs place old new at within read is =
     ap (λ n. map owing_in (set bs n new)) at
-    ∙ changed_first name g bs new (omega arith) (is ∙ ap (λ n. g (get_or bs n new).owing) at)
+    ∙ changed_first name g bs old new (omega arith) (is ∙ ap (λ (b : Balance). g b.owing) (read ∙ ap (λ n. get_or bs n old) at))
 
 -- ---- each name once
 
@@ -121,13 +145,16 @@ removed_at name bs place at distinct = ap (λ n. map owing_in (remove bs n)) at 
 kept : (ds : List Debt) → filter (λ (d : Debt). true) ds ++ [] ≡ ds
 kept ds = append-nil (filter (λ (d : Debt). true) ds) ∙ filter_all (λ (d : Debt). true) (λ d. refl) ds
 
+abbrev edited_owing : (Stream → Stream) → Owing → Bool → Owing
+edited_owing change o b = record { stream = if b then change o.stream else o.stream; owed = o.owed }
+
+abbrev silent_owing : List ℕ → (Stream → Stream) → Owing → List Debt → Owing
+silent_owing name change o left = record { stream = of_named name change o.stream; owed = left }
+
 -- one that makes no token and takes none off
 edited : (name : List ℕ) (change : Stream → Stream) (o : Owing) (b : Bool) → is_named name o.stream ≡ b
-    → record { stream = if b then change o.stream else o.stream; owed = o.owed }
-    ≡ record { stream = of_named name change o.stream; owed = filter (λ (d : Debt). true) o.owed ++ [] }
-edited name change o b is =
-    ap (λ t. record { stream = if t then change o.stream else o.stream; owed = o.owed }) (sym is)
-    ∙ ap (λ l. record { stream = of_named name change o.stream; owed = l }) (sym (kept o.owed))
+    → edited_owing change o b ≡ silent_owing name change o (filter (λ (d : Debt). true) o.owed ++ [])
+edited name change o b is = ap (edited_owing change o) (sym is) ∙ ap (silent_owing name change o) (sym (kept o.owed))
 
 abbrev with_configured : Option (List (List ℕ)) → Delivery → Option (List ℕ) → Stream → Stream
 with_configured requested delivery description s = with_conf (configured requested delivery description s.conf) s

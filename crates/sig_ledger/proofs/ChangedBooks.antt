@@ -9,7 +9,7 @@ use Rattle.sig_terms.specs.declared.configuration.StreamConf.{StreamConf}
 use Rattle.sig_terms.specs.declared.fact.Fact.{Fact}
 use Rattle.sig_terms.specs.declared.fact.Fact.TheVariants.{Created, StatusSet, Deleted, Settled, Asked}
 use Rattle.sig_terms.specs.declared.fact.SettledItem.{SettledItem}
-use Rattle.sig_history.specs.Streams.{Stream, Publication, client_in, count_one, created_by, is_named, stands}
+use Rattle.sig_history.specs.Streams.{Stream, Count, Publication, client_in, count_one, created_by, is_named, stands}
 use Rattle.sig_history.specs.Facts.{brought_by, counted, new_stream, published_by, removed_by, updated_news, verified_news}
 use Rattle.sig_history.specs.Owed.{sum_of}
 use Rattle.sig_history.specs.Sound.{Fits, are_owed, each_once, is_apt, may_be_made}
@@ -21,12 +21,17 @@ use Rattle.sig_ledger.specs.declared.debt.Said.{Said}
 use Rattle.sig_ledger.specs.declared.debt.Said.TheVariants as said
 use Rattle.sig_ledger.specs.Books.{AreKept, Balance, Books, Owing, first_changed, has_name, opened, owing_after, owing_in, put_balance, put_owing, stream_in, sum_in}
 use Rattle.sig_history.specs.Streams.{is_before}
+use Rattle.sig_ledger.specs.Room.{HaveRoom}
 use Rattle.std.proofs.Common.{false, if◌then◌else◌}
 use Rattle.sig_ledger.proofs.FoundLemmas.{book_streams}
 use Rattle.sig_ledger.proofs.ChangeLemmas.{changed_at, created_all, deleted_all, removed_at, stands_at}
 use Rattle.sig_ledger.proofs.TakenBooks.{MayTake, placed_owing, taken, taken_kept, taken_sum, without_owing}
 
 -- ---- one stream
+
+-- the books that a ledger's fields hold
+abbrev pub books_in : List ℕ → List Balance → List Count → List Publication → Books
+books_in sid bs created published = record { store_id = sid; owings = map owing_in bs; created = created; published = published }
 
 -- the books with other streams
 abbrev pub with_owings : Books → List Owing → Books
@@ -83,18 +88,23 @@ place_within b bs name same here =
     stands_at name bs (ap (λ os. stands name (map stream_in os)) same
     ∙ ap (stands name) (sym (book_streams b.store_id b.published b.owings)) ∙ here)
 
+-- room that is held for what the books come to is held for the streams of the books
+pub held_room : (b : Books) (name : List ℕ) (rooms : List ℕ) → HaveRoom (is_named name) (sum_in b).parts.streams rooms
+    → HaveRoom (is_named name) (map stream_in b.owings) rooms
+held_room b name rooms held = subst (λ (ss : List Stream). HaveRoom (is_named name) ss rooms) (book_streams b.store_id b.published b.owings) held
+
 -- what is written at the place of a name is what the fact makes of its stream
-pub change_here : (b : Books) (bs : List Balance) (f : Fact) (w : Said) (name : List ℕ) (g : Owing → Owing) (place : ℕ) (new : Balance)
+pub change_here : (b : Books) (bs : List Balance) (f : Fact) (w : Said) (name : List ℕ) (g : Owing → Owing) (place : ℕ) (old new : Balance)
     → MayTake b f w → map owing_in bs ≡ b.owings → brought_by (sum_in b).parts f ≡ None → removed_by f ≡ None → published_by (sum_in b).parts f ≡ []
     → ((os : List Owing) → AreDistinct (map stream_in os) → first_changed name g os ≡ map (owing_after f w) os)
-    → place ≡ position_or_len (has_name name) bs → place < length bs → new.owing ≡ g (get_or bs place new).owing
+    → place ≡ position_or_len (has_name name) bs → place < length bs → old ≡ get_or bs place old → new.owing ≡ g old.owing
     → IsChange b f w (map owing_in (set bs place new))
-change_here b bs f w name g place new may same brings removes publishes all at within is = record {
+change_here b bs f w name g place old new may same brings removes publishes all at within read is = record {
   may = may;
   brings = brings;
   removes = removes;
   publishes = publishes;
-  now = changed_at name g bs place new at within is ∙ ap (first_changed name g) same ∙ all b.owings (distinct_in b may.kept);
+  now = changed_at name g bs place old new at within read is ∙ ap (first_changed name g) same ∙ all b.owings (distinct_in b may.kept);
 }
 
 -- ---- that a token says what the fact tells

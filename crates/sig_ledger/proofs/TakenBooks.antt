@@ -8,7 +8,7 @@ use Rattle.sig_event.specs.declared.news.News.{News}
 use Rattle.sig_terms.specs.declared.fact.Fact.{Fact}
 use Rattle.sig_terms.specs.declared.fact.Fact.TheVariants.{Created, Configured, StatusSet, Listed, Unlisted, Deleted, Published, Settled, Asked}
 use Rattle.sig_history.specs.Streams.{Stream, Publication, Parts, Made, claims_for, is_before, is_due, is_named, list_added, list_removed, with_asked, with_conf, with_listed, with_status}
-use Rattle.sig_history.specs.Facts.{brought_by, changed_by, configured, counted, is_told, of_named, published_by, removed_by, said_by, stream_after, tells, time_of, told_one, token_by, token_for}
+use Rattle.sig_history.specs.Facts.{brought_by, changed_by, configured, counted, is_told, of_named, published_by, removed_by, said_by, stream_after, tells, time_of, told_one, token_by, token_for, updated_news, verified_news}
 use Rattle.sig_history.specs.Owed.{sum_of, takes_off}
 use Rattle.sig_history.specs.Sound.{Fits}
 use Rattle.sig_history.specs.Standings.{Standing, placed_standing, put_standing, standing_after, sum_with, without_standing}
@@ -123,16 +123,18 @@ new_token : (sid : List ℕ) (published : List Publication) (f : Fact) (w : Said
 new_token sid published (Created conf time) w s says = refl
 new_token sid published (Configured stream requested delivery description) w s says = refl
 new_token sid published (StatusSet stream status reason operator time) w s says =
-    told_token sid published s _ time w _ (operator && is_named stream s)
+    told_token sid published s (stream_after (StatusSet stream status reason operator time) s) time w (updated_news stream status reason) (operator && is_named stream s)
     (made_same sid published (StatusSet stream status reason operator time) s (next_debt time w s)) (says s)
 new_token sid published (Listed stream subject) w s says = refl
 new_token sid published (Unlisted stream subject) w s says = refl
 new_token sid published (Deleted stream) w s says = refl
 new_token sid published (Published id news time) w s says =
-    told_token sid published s _ time w news (is_due news s) (made_same sid published (Published id news time) s (next_debt time w s)) (says s)
+    told_token sid published s (stream_after (Published id news time) s) time w news (is_due news s)
+    (made_same sid published (Published id news time) s (next_debt time w s)) (says s)
 new_token sid published (Settled stream items) w s says = refl
 new_token sid published (Asked stream state time) w s says =
-    told_token sid published s _ time w _ (is_named stream s) (made_same sid published (Asked stream state time) s (next_debt time w s)) (says s)
+    told_token sid published s (stream_after (Asked stream state time) s) time w (verified_news stream state) (is_named stream s)
+    (made_same sid published (Asked stream state time) s (next_debt time w s)) (says s)
 
 -- ---- streams beside what they owe
 

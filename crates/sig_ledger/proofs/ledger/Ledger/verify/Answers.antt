@@ -1,0 +1,86 @@
+use Rattle.std.proofs.Common.{◌≡◌, ◌∙◌, ap, sym, subst, ℕ, ◌<◌, List, [], ◌∷◌, map, length, refl, arith}
+use Rattle.std.specs.List.{position_or_len}
+use Rattle.std.proofs.Math.ListN.{set}
+use Rattle.sig_terms.specs.declared.fact.Fact.{Fact}
+use Rattle.sig_history.specs.Owed.{sum_of}
+use Rattle.sig_history.specs.Sound.{Fits}
+use Rattle.sig_ledger.specs.Books.{Balance, Books, Owing, has_name, owing_in, sum_in}
+use Rattle.sig_ledger.specs.Room.{Held}
+use Rattle.sig_terms.specs.declared.fact.Fact.TheVariants.{Asked}
+use Rattle.sig_ledger.specs.declared.debt.Said.TheVariants as said
+use Rattle.sig_ledger.specs.Books.{owing_asked, room_in}
+use Rattle.sig_ledger.proofs.ChangeLemmas.{asked_all}
+use Rattle.sig_ledger.proofs.ChangedBooks.{may_ask}
+use Rattle.sig_history.specs.Streams.{is_named}
+use Rattle.sig_ledger.specs.Room.{HaveRoom}
+use Rattle.sig_ledger.proofs.ChangedBooks.{held_room}
+use Rattle.sig_ledger.proofs.RoomLemmas.{rooms_held}
+use Rattle.sig_ledger.proofs.ChangeLemmas.{room_at}
+use Rattle.sig_ledger.proofs.RoomLemmas.{tops_below}
+use Rattle.sig_ledger.proofs.ChangeLemmas.{top_at}
+use Rattle.sig_ledger.proofs.ChangedBooks.{IsChange, apt_by, books_in, change_here, change_kept, change_sum, place_within}
+use Rattle.sig_ledger.proofs.ledger.Ledger.verify.Goals as goal
+
+pub index_mut-requires : goal.index_mut-requires
+index_mut-requires c =
+    let b : Books = books_in c.self.inside.store_id c.self.inside.accounts.items c.self.inside.created.items c.self.inside.published.items in
+    let f : Fact = Asked c.args.stream.now c.args.state c.args.time in
+    let fits : Fits (sum_in b) f = subst (λ (h : Held). Fits (sum_in h.books) f) (sym c.self.view_is) c.requires.fits in
+    let at : c.place_named-place.result ≡ position_or_len (has_name c.args.stream.now) c.self.inside.accounts.items =
+    c.place_named-place.ensures ∙ ap (λ n. position_or_len (has_name n) c.as_slice.result.now) c.as_str.ensures.same
+    ∙ ap (λ (bs : List Balance). position_or_len (has_name c.args.stream.now) bs) c.as_slice.ensures.value in
+    let within : c.place_named-place.result < length c.self.inside.accounts.items =
+    subst (λ n. n < length c.self.inside.accounts.items) (sym at) (place_within b c.self.inside.accounts.items c.args.stream.now refl (apt_by (sum_in b) f fits)) in
+    omega (arith, c.self.inside.accounts.ok)
+
+pub verify-requires-clause-room : goal.verify-requires-clause-room
+verify-requires-clause-room c =
+    let b : Books = books_in c.self.inside.store_id c.self.inside.accounts.items c.self.inside.created.items c.self.inside.published.items in
+    let f : Fact = Asked c.args.stream.now c.args.state c.args.time in
+    let fits : Fits (sum_in b) f = subst (λ (h : Held). Fits (sum_in h.books) f) (sym c.self.view_is) c.requires.fits in
+    let at : c.place_named-place.result ≡ position_or_len (has_name c.args.stream.now) c.self.inside.accounts.items =
+    c.place_named-place.ensures ∙ ap (λ n. position_or_len (has_name n) c.as_slice.result.now) c.as_str.ensures.same
+    ∙ ap (λ (bs : List Balance). position_or_len (has_name c.args.stream.now) bs) c.as_slice.ensures.value in
+    let within : c.place_named-place.result < length c.self.inside.accounts.items =
+    subst (λ n. n < length c.self.inside.accounts.items) (sym at) (place_within b c.self.inside.accounts.items c.args.stream.now refl (apt_by (sum_in b) f fits)) in
+    room_at c.args.stream.now room_in c.self.inside.accounts.items c.place_named-place.result c.index_mut.result.now at within c.index_mut.ensures.value
+    (rooms_held (is_named c.args.stream.now) room_in c.self.inside.accounts.items (held_room b c.args.stream.now (map room_in c.self.inside.accounts.items)
+    (subst (λ (h : Held). HaveRoom (is_named c.args.stream.now) (sum_in h.books).parts.streams h.room.tokens) (sym c.self.view_is) c.requires.room)))
+
+pub verify-requires-clause-number : goal.verify-requires-clause-number
+verify-requires-clause-number c =
+    let b : Books = books_in c.self.inside.store_id c.self.inside.accounts.items c.self.inside.created.items c.self.inside.published.items in
+    let f : Fact = Asked c.args.stream.now c.args.state c.args.time in
+    let fits : Fits (sum_in b) f = subst (λ (h : Held). Fits (sum_in h.books) f) (sym c.self.view_is) c.requires.fits in
+    let at : c.place_named-place.result ≡ position_or_len (has_name c.args.stream.now) c.self.inside.accounts.items =
+    c.place_named-place.ensures ∙ ap (λ n. position_or_len (has_name n) c.as_slice.result.now) c.as_str.ensures.same
+    ∙ ap (λ (bs : List Balance). position_or_len (has_name c.args.stream.now) bs) c.as_slice.ensures.value in
+    let within : c.place_named-place.result < length c.self.inside.accounts.items =
+    subst (λ n. n < length c.self.inside.accounts.items) (sym at) (place_within b c.self.inside.accounts.items c.args.stream.now refl (apt_by (sum_in b) f fits)) in
+    top_at c.self.inside.accounts.items c.place_named-place.result c.index_mut.result.now within c.index_mut.ensures.value
+    (tops_below c.self.inside.store_id c.self.inside.published.items c.self.inside.created.items c.self.inside.accounts.items c.self.invariant.0.whole)
+
+change : (c : goal.After-self-1) → IsChange (books_in c.self.inside.store_id c.self.inside.accounts.items c.self.inside.created.items c.self.inside.published.items) (Asked c.args.stream.now c.args.state c.args.time) (said.Verified c.args.state)
+    (map owing_in (set c.self.inside.accounts.items c.place_named-place.result c.verify.new.self))
+change c =
+    let b : Books = books_in c.self.inside.store_id c.self.inside.accounts.items c.self.inside.created.items c.self.inside.published.items in
+    let f : Fact = Asked c.args.stream.now c.args.state c.args.time in
+    let fits : Fits (sum_in b) f = subst (λ (h : Held). Fits (sum_in h.books) f) (sym c.self.view_is) c.requires.fits in
+    let at : c.place_named-place.result ≡ position_or_len (has_name c.args.stream.now) c.self.inside.accounts.items =
+    c.place_named-place.ensures ∙ ap (λ n. position_or_len (has_name n) c.as_slice.result.now) c.as_str.ensures.same
+    ∙ ap (λ (bs : List Balance). position_or_len (has_name c.args.stream.now) bs) c.as_slice.ensures.value in
+    let within : c.place_named-place.result < length c.self.inside.accounts.items =
+    subst (λ n. n < length c.self.inside.accounts.items) (sym at) (place_within b c.self.inside.accounts.items c.args.stream.now refl (apt_by (sum_in b) f fits)) in
+    change_here b c.self.inside.accounts.items f (said.Verified c.args.state) c.args.stream.now
+    (owing_asked c.args.state c.args.time)
+    c.place_named-place.result c.index_mut.result.now c.verify.new.self
+    (may_ask b c.args.stream.now c.args.state c.args.time c.self.invariant.0 fits) refl refl refl refl
+    (asked_all c.args.stream.now c.args.state c.args.time) at within c.index_mut.ensures.value c.verify.ensures
+
+pub invariant_of-self : goal.invariant_of-self
+invariant_of-self c = (change_kept _ _ _ _ (change c ), c.self.invariant.1)
+
+pub returns : goal.returns
+returns c = 
+    change_sum _ _ _ _ (change c )
+    ∙ ap (λ (h : Held). sum_of (sum_in h.books) ((Asked c.args.stream.now c.args.state c.args.time) ∷ [])) c.self.view_is
