@@ -4,12 +4,14 @@ use Rattle.std.specs.List.{position_or_len, remove}
 use Rattle.std.proofs.lemmas.Bool.{and_parts}
 use Rattle.std.proofs.lemmas.Slice.Eq.{bytes_eq-Decides}
 use Rattle.std.proofs.Math.ListN.{set}
+use Rattle.sig_event.specs.declared.news.News.{News}
 use Rattle.sig_event.specs.declared.status.Status.{Status}
+use Rattle.std.proofs.lemmas.List.{length-append}
 use Rattle.sig_terms.specs.declared.configuration.StreamConf.{StreamConf}
 use Rattle.sig_terms.specs.declared.fact.Fact.{Fact}
-use Rattle.sig_terms.specs.declared.fact.Fact.TheVariants.{Created, StatusSet, Deleted, Settled, Asked}
+use Rattle.sig_terms.specs.declared.fact.Fact.TheVariants.{Created, StatusSet, Deleted, Published, Settled, Asked}
 use Rattle.sig_terms.specs.declared.fact.SettledItem.{SettledItem}
-use Rattle.sig_history.specs.Streams.{Stream, Count, Publication, client_in, count_one, created_by, is_named, stands}
+use Rattle.sig_history.specs.Streams.{Stream, Count, Publication, client_in, count_one, created_by, is_named, issued_of, stands}
 use Rattle.sig_history.specs.Facts.{brought_by, counted, new_stream, published_by, removed_by, updated_news, verified_news}
 use Rattle.sig_history.specs.Owed.{sum_of}
 use Rattle.sig_history.specs.Sound.{Fits, are_owed, each_once, is_apt, may_be_made}
@@ -25,7 +27,7 @@ use Rattle.sig_ledger.specs.Room.{HaveRoom}
 use Rattle.std.proofs.Common.{false, if◌then◌else◌}
 use Rattle.sig_ledger.proofs.FoundLemmas.{book_streams}
 use Rattle.sig_ledger.proofs.ChangeLemmas.{changed_at, created_all, deleted_all, removed_at, stands_at}
-use Rattle.sig_ledger.proofs.TakenBooks.{MayTake, placed_owing, taken, taken_kept, taken_sum, without_owing}
+use Rattle.sig_ledger.proofs.TakenBooks.{MayTake, last_news, placed_owing, taken, taken_kept, taken_sum, without_owing}
 
 -- ---- one stream
 
@@ -52,7 +54,10 @@ change_is b f w owings change =
     ∙ ap (λ (l : List Publication). record { store_id = b.store_id; owings = os; created = b.created; published = l }) (sym (append-nil b.published))
     ∙ ap (λ (l : List Publication). record { store_id = b.store_id; owings = os; created = b.created; published = b.published ++ l }) (sym change.publishes)
     ∙ ap (λ (o : Option Stream). record {
-      store_id = b.store_id; owings = placed_owing o os; created = counted o b.created; published = b.published ++ published_by (sum_in b).parts f;
+      store_id = b.store_id;
+      owings = placed_owing o os;
+      created = counted o b.created;
+      published = b.published ++ published_by (sum_in b).parts f;
     }) (sym change.brings)
     ∙ ap (λ (o : Option (List ℕ)). record {
       store_id = b.store_id;
@@ -134,6 +139,17 @@ may_ask b name state time kept fits = record {
   placed = tt;
 }
 
+pub may_publish : (b : Books) (id : List ℕ) (n : News) (time : ℕ) → AreKept b → Fits (sum_in b) (Published id n time)
+    → MayTake b (Published id n time) (said.Published (length b.published))
+may_publish b id n time kept fits =
+    let more : List Publication = published_by (sum_in b).parts (Published id n time) in
+    record {
+      kept = kept;
+      fits = fits;
+      says = λ s told. last_news b.published (record { id = id; news = n; issued = map issued_of (made_by (sum_in b).parts (Published id n time)) });
+      placed = omega (arith, length-append b.published more);
+    }
+
 -- ---- a stream that is brought
 
 pub put_owings : (b : Balance) (bs : List Balance) → map owing_in (put_balance b bs) ≡ put_owing b.owing (map owing_in bs)
@@ -160,10 +176,16 @@ with_stream b conf = record {
 pub with_stream_is : (b : Books) (conf : StreamConf) (time : ℕ) → with_stream b conf ≡ taken b (Created conf time) nothing_said
 with_stream_is b conf time =
     ap (λ (l : List Publication). record {
-      store_id = b.store_id; owings = put_owing (opened (stream_for b conf)) b.owings; created = count_one (client_in conf.stream) b.created; published = l;
+      store_id = b.store_id;
+      owings = put_owing (opened (stream_for b conf)) b.owings;
+      created = count_one (client_in conf.stream) b.created;
+      published = l;
     }) (sym (append-nil b.published))
     ∙ ap (λ (os : List Owing). record {
-      store_id = b.store_id; owings = put_owing (opened (stream_for b conf)) os; created = count_one (client_in conf.stream) b.created; published = b.published ++ [];
+      store_id = b.store_id;
+      owings = put_owing (opened (stream_for b conf)) os;
+      created = count_one (client_in conf.stream) b.created;
+      published = b.published ++ [];
     }) (sym (created_all conf time nothing_said b.owings))
 
 -- ---- a stream that is taken away
@@ -176,5 +198,8 @@ without_is b bs name place kept same at =
     (removed_at name bs place at (subst (λ os. AreDistinct (map stream_in os)) (sym same) (distinct_in b kept))
     ∙ ap (filter others) same ∙ sym (deleted_all name nothing_said b.owings))
     ∙ ap (λ (l : List Publication). record {
-      store_id = b.store_id; owings = filter others (map (owing_after (Deleted name) nothing_said) b.owings); created = b.created; published = l;
+      store_id = b.store_id;
+      owings = filter others (map (owing_after (Deleted name) nothing_said) b.owings);
+      created = b.created;
+      published = l;
     }) (sym (append-nil b.published))

@@ -1,11 +1,20 @@
 -- Room that is held for tokens and subjects, and numbers that are left.
-use Rattle.std.proofs.Common.{◌≡◌, ◌∙◌, ap, sym, ℕ, ◌+◌, ◌≤◌, ◌<◌, List, [], ◌∷◌, ◌++◌, map, length, take, drop, get_or, Bool, true, false, refl, arith, All, OnOk, Result, Ok, Err}
+use Rattle.std.proofs.Common.{◌≡◌, ◌∙◌, ap, sym, ℕ, ◌+◌, ◌≤◌, ◌<◌, List, [], ◌∷◌, ◌++◌, map, length, take, drop, get_or, Bool, true, false, refl, arith, All, OnOk, IfOk, Result, Ok, Err, subst, is_some, Option}
 use Rattle.std.proofs.Math.Seq.{take-append_seam}
 use Rattle.std.proofs.lemmas.List.Elements.{All-cons, All-nil, All-head, All-tail}
 use Rattle.sig_json.specs.declared.limits.TheConstants.{LAST_NUMBER}
-use Rattle.sig_history.specs.Streams.{Stream, Count, Publication}
+use Rattle.std.proofs.lemmas.Bool.{false≢true}
+use Rattle.sig_event.specs.declared.status.Status.{Status}
+use Rattle.sig_subject.specs.declared.subject.Subject.{Subject}
+use Rattle.sig_terms.specs.declared.fact.Fact.{Fact}
+use Rattle.sig_terms.specs.declared.fact.Fact.TheVariants.{Listed, StatusSet}
+use Rattle.sig_history.specs.Facts.{is_told}
+use Rattle.sig_history.specs.Standings as standings
+use Rattle.sig_history.specs.Streams.{Stream, Count, Publication, is_named}
+use Rattle.sig_ledger.specs.declared.debt.Notice.{Notice}
+use Rattle.sig_ledger.proofs.FoundLemmas.{book_streams}
 use Rattle.sig_history.specs.Whole.{IsWhole}
-use Rattle.sig_ledger.specs.Books.{Balance, owing_in, stream_in, sum_in}
+use Rattle.sig_ledger.specs.Books.{Balance, notice_for, owing_in, room_in, standing_of, stream_in, subjects_in, sum_in}
 use Rattle.sig_ledger.specs.Room.{HasRoomFor, HaveRoom, IsBelowTop}
 
 pub rooms_held : (test : Stream → Bool) (room : Balance → ℕ) (bs : List Balance)
@@ -25,6 +34,33 @@ pub none_needs : (test : Stream → Bool) (room : Balance → ℕ) → ((s : Str
 none_needs test room none [] = tt
 none_needs test room none (b ∷ bs) = (λ is. let not : test b.owing.stream ≡ false = none b.owing.stream in cc, none_needs test room none bs)
 
+-- what puts a subject on a list tells nobody, and so needs no room for tokens
+pub none_listed : (sid : List ℕ) (published : List Publication) (f : Fact) (stream : List ℕ) (subject : Subject) (bs : List Balance) → f ≡ Listed stream subject
+    → HaveRoom (is_told f) (map standings.stream_in (map (standing_of sid published) (map owing_in bs))) (map room_in bs)
+none_listed sid published f stream subject bs is =
+    subst (λ (ss : List Stream). HaveRoom (is_told f) ss (map room_in bs)) (sym (book_streams sid published (map owing_in bs)))
+    (subst (λ (g : Fact). HaveRoom (is_told g) (map stream_in (map owing_in bs)) (map room_in bs)) (sym is)
+    (none_needs (is_told (Listed stream subject)) room_in (λ s. refl) bs))
+
+pub listed_room : (sid : List ℕ) (published : List Publication) (name other : List ℕ) (now bs : List Balance) → now ≡ bs → other ≡ name
+    → All (HasRoomFor (is_named other) subjects_in) bs
+    → HaveRoom (is_named name) (map standings.stream_in (map (standing_of sid published) (map owing_in now))) (map subjects_in now)
+listed_room sid published name other now bs same is all =
+    subst (λ (ss : List Stream). HaveRoom (is_named name) ss (map subjects_in now)) (sym (book_streams sid published (map owing_in now)))
+    (subst (λ (l : List Balance). HaveRoom (is_named name) (map stream_in (map owing_in l)) (map subjects_in l)) (sym same)
+    (subst (λ (n : List ℕ). HaveRoom (is_named n) (map stream_in (map owing_in bs)) (map subjects_in bs)) is
+    (room_holds (is_named other) subjects_in bs all)))
+
+-- where there is a notice, the operator set the status, and room is held for it
+pub told_status : (stream : List ℕ) (status : Status) (reason kept : Option (List ℕ)) (operator : Bool) (time : ℕ) (ss : List Stream) (rooms : List ℕ)
+    → HaveRoom (is_told (StatusSet stream status reason operator time)) ss rooms
+    → (notice : Option Notice) → notice ≡ notice_for status kept operator time → is_some notice ≡ true → HaveRoom (is_named stream) ss rooms
+told_status stream status reason kept true time ss rooms held notice is some = held
+told_status stream status reason kept false time ss rooms held notice is some =
+    let none : is_some notice ≡ false = ap is_some is in
+    let wrong : false ≡ true = sym none ∙ some in
+    absurd (false≢true wrong)
+
 -- the next number of each stream is one that is held
 pub tops_below : (sid : List ℕ) (published : List Publication) (created : List Count) (bs : List Balance)
     → IsWhole (sum_in (record { store_id = sid; owings = map owing_in bs; created = created; published = published })) → All IsBelowTop bs
@@ -42,3 +78,7 @@ refilled n ws items long =
 pub on_ok : {T E : Type 0} (A B : Type 0) → (A → B) → (r : Result T E) → OnOk r A → OnOk r B
 on_ok A B more (Ok x) a = more a
 on_ok A B more (Err e) a = tt
+
+pub ok_is : {T E : Type 0} (a b : T) → a ≡ b → (r : Result T E) → IfOk r (λ x. x ≡ a) → IfOk r (λ x. x ≡ b)
+ok_is a b same (Ok x) is = is ∙ same
+ok_is a b same (Err e) is = tt

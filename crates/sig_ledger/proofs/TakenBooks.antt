@@ -4,6 +4,7 @@ use Rattle.std.specs.Prelude.{All, IfSome}
 use Rattle.std.proofs.lemmas.List.{length-append, length-map, map-append}
 use Rattle.std.proofs.lemmas.List.Elements.{All-append, All-cons, All-filter, All-head, All-nil, All-tail}
 use Rattle.std.proofs.Math.ListN.{get_or-append}
+use Rattle.std.proofs.Math.Seq.{get_or-append_seam}
 use Rattle.sig_event.specs.declared.news.News.{News}
 use Rattle.sig_terms.specs.declared.fact.Fact.{Fact}
 use Rattle.sig_terms.specs.declared.fact.Fact.TheVariants.{Created, Configured, StatusSet, Listed, Unlisted, Deleted, Published, Settled, Asked}
@@ -62,6 +63,12 @@ earlier published more place within =
     ap (λ l. get_or l place no_news) (map-append (λ (p : Publication). p.news) published more)
     ∙ get_or-append (map (λ (p : Publication). p.news) published) (map (λ (p : Publication). p.news) more) no_news place
     (omega (arith, length-map published (λ (p : Publication). p.news)))
+
+pub last_news : (published : List Publication) (p : Publication) → news_at (published ++ p ∷ []) (length published) ≡ p.news
+last_news published p =
+    ap (λ l. get_or l (length published) no_news) (map-append (λ (q : Publication). q.news) published (p ∷ []))
+    ∙ ap (λ n. get_or (map (λ (q : Publication). q.news) published ++ p.news ∷ []) n no_news) (sym (length-map published (λ (q : Publication). q.news)))
+    ∙ get_or-append_seam (map (λ (q : Publication). q.news) published) p.news [] no_news
 
 said_same : (published more : List Publication) (name : List ℕ) (w : Said) → IsPlaced (length published) w
     → news_of (published ++ more) name w ≡ news_of published name w

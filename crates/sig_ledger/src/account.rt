@@ -41,8 +41,14 @@ impl Model for Account {
     ghost view = { λ a. record {
       owing = record {
         stream = record {
-          client = client_in a.conf.stream; number = a.number; conf = a.conf; status = a.status; reason = a.reason;
-          listed = a.listed.items; asked = a.asked; made = a.made;
+          client = client_in a.conf.stream;
+          number = a.number;
+          conf = a.conf;
+          status = a.status;
+          reason = a.reason;
+          listed = a.listed.items;
+          asked = a.asked;
+          made = a.made;
         };
         owed = a.owed.items;
       };
@@ -159,7 +165,9 @@ impl Account {
     {
         match fact {
             Fact::StatusSet {
-                stream, operator, ..
+                stream,
+                operator,
+                ..
             } => *operator && self.is_named(stream.as_str()),
             Fact::Published { news, .. } => self.is_due(news),
             Fact::Asked { stream, .. } => self.is_named(stream.as_str()),

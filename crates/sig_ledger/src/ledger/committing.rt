@@ -46,7 +46,7 @@ impl Ledger {
     {
         let (fact, spare) = prepared.into_parts();
         match fact {
-            Fact::Created { conf, time } => self.take_stream(conf, time, spare),
+            Fact::Created { conf, time: _ } => self.take_stream(conf, spare),
             Fact::Configured {
                 stream,
                 requested,
@@ -77,10 +77,10 @@ impl Ledger {
     }
 
     // A stream was made.
-    fn take_stream(&mut self, conf: StreamConf, time: u64, spare: Spare)
-        requires fits { Fits (sum_in self.old.books) (Created conf time) }
-        requires room { HasRoom (sum_in self.old.books).parts self.old.room (record { fact = Created conf time; spare = spare }) }
-        ensures { sum_in self.new.books ≡ sum_of (sum_in self.old.books) (Created conf time ∷ []) }
+    fn take_stream(&mut self, conf: StreamConf, spare: Spare)
+        requires fits { (time : ℕ) → Fits (sum_in self.old.books) (Created conf time) }
+        requires room { (time : ℕ) → HasRoom (sum_in self.old.books).parts self.old.room (record { fact = Created conf time; spare = spare }) }
+        ensures { (time : ℕ) → sum_in self.new.books ≡ sum_of (sum_in self.old.books) (Created conf time ∷ []) }
     {
         let client = spare.into_client();
         let number = created_by(self.created.as_slice(), &client) + 1;

@@ -44,9 +44,9 @@ change c =
     (configured_all c.args.stream.now c.args.requested c.args.delivery c.args.description nothing_said) at within c.index_mut.ensures.value c.configure.ensures
 
 pub invariant_of-self : goal.invariant_of-self
-invariant_of-self c = (change_kept _ _ _ _ (change c ), c.self.invariant.1)
+invariant_of-self c = (change_kept _ _ _ _ (change c), c.self.invariant.1)
 
 pub returns : goal.returns
-returns c = 
-    change_sum _ _ _ _ (change c )
+returns c =
+    change_sum _ _ _ _ (change c)
     ∙ ap (λ (h : Held). sum_of (sum_in h.books) ((Configured c.args.stream.now c.args.requested c.args.delivery c.args.description) ∷ [])) c.self.view_is

@@ -43,9 +43,9 @@ change c =
     (unlisted_all c.args.stream.now c.args.subject.now nothing_said) at within c.index_mut.ensures.value c.unlist.ensures
 
 pub invariant_of-self : goal.invariant_of-self
-invariant_of-self c = (change_kept _ _ _ _ (change c ), c.self.invariant.1)
+invariant_of-self c = (change_kept _ _ _ _ (change c), c.self.invariant.1)
 
 pub returns : goal.returns
-returns c = 
-    change_sum _ _ _ _ (change c )
+returns c =
+    change_sum _ _ _ _ (change c)
     ∙ ap (λ (h : Held). sum_of (sum_in h.books) ((Unlisted c.args.stream.now c.args.subject.now) ∷ [])) c.self.view_is

@@ -78,9 +78,9 @@ change c =
     (asked_all c.args.stream.now c.args.state c.args.time) at within c.index_mut.ensures.value c.verify.ensures
 
 pub invariant_of-self : goal.invariant_of-self
-invariant_of-self c = (change_kept _ _ _ _ (change c ), c.self.invariant.1)
+invariant_of-self c = (change_kept _ _ _ _ (change c), c.self.invariant.1)
 
 pub returns : goal.returns
-returns c = 
-    change_sum _ _ _ _ (change c )
+returns c =
+    change_sum _ _ _ _ (change c)
     ∙ ap (λ (h : Held). sum_of (sum_in h.books) ((Asked c.args.stream.now c.args.state c.args.time) ∷ [])) c.self.view_is

@@ -1,0 +1,110 @@
+use Rattle.std.proofs.Common.{◌≡◌, ◌∙◌, ap, sym, subst, List, ℕ, ◌+◌, ◌<◌, [], ◌∷◌, ◌++◌, map, length, take, drop, arith, All, IsOk, bytes_eq, if◌then◌else◌}
+use Rattle.std.specs.Prelude.{vec_len, vec_capacity}
+use Rattle.sig_terms.specs.declared.fact.Fact.{Fact}
+use Rattle.sig_terms.specs.declared.fact.Fact.TheVariants.{Published}
+use Rattle.sig_terms.specs.declared.token.Issued.{Issued}
+use Rattle.sig_history.specs.Streams.{Stream, Publication, is_due, issued_of}
+use Rattle.sig_history.specs.Facts.{made_by}
+use Rattle.sig_history.specs.Owed.{sum_of}
+use Rattle.sig_history.specs.Sound.{Fits}
+use Rattle.sig_ledger.specs.declared.debt.Said.{Said}
+use Rattle.sig_ledger.specs.declared.debt.Said.TheVariants as said
+use Rattle.sig_ledger.specs.Books.{AreKept, Balance, Books, Owing, owing_after, owing_heard, owing_in, room_in, stream_in, sum_in}
+use Rattle.sig_ledger.specs.Room.{HasRoomFor, HaveRoom, Held, IsBelowTop}
+use Rattle.indexmap.specs.IndexMap.{get}
+use Rattle.sig_ledger.specs.Places.{IsIndex, with_first}
+use Rattle.sig_ledger.proofs.ChangeLemmas.{heard_all}
+use Rattle.sig_ledger.proofs.ChangedBooks.{books_in, may_publish}
+use Rattle.sig_ledger.proofs.FoundLemmas.{book_streams}
+use Rattle.sig_ledger.proofs.PlaceLemmas.{index_after}
+use Rattle.sig_ledger.proofs.RoomLemmas.{refilled, rooms_held, tops_below}
+use Rattle.sig_ledger.proofs.TakenBooks.{MayTake, taken, taken_kept, taken_sum}
+use Rattle.sig_ledger.proofs.ledger.Ledger.publish.Goals as goal
+
+pub hear_all-requires-clause-rooms : goal.hear_all-requires-clause-rooms
+hear_all-requires-clause-rooms c =
+    let items : List Balance = c.self.inside.accounts.items in
+    let held : HaveRoom (is_due c.args.news) (map stream_in (map owing_in items)) (map room_in items) =
+    subst (λ (ss : List Stream). HaveRoom (is_due c.args.news) ss (map room_in items)) (book_streams c.self.inside.store_id c.self.inside.published.items (map owing_in items))
+    (subst (λ (h : Held). HaveRoom (is_due c.args.news) (sum_in h.books).parts.streams h.room.tokens) (sym c.self.view_is) c.requires.room.tokens) in
+    subst (All (HasRoomFor (is_due c.args.news) room_in)) (sym c.as_mut_slice.ensures.value) (rooms_held (is_due c.args.news) room_in items held)
+
+pub hear_all-requires-clause-numbers : goal.hear_all-requires-clause-numbers
+hear_all-requires-clause-numbers c =
+    subst (All IsBelowTop) (sym c.as_mut_slice.ensures.value)
+    (tops_below c.self.inside.store_id c.self.inside.published.items c.self.inside.created.items c.self.inside.accounts.items c.self.invariant.0.whole)
+
+pub enter_place-requires : goal.enter_place-requires
+enter_place-requires c =
+    let some : 0 < c.args.self.now.room.ids = c.requires.room.space.1 in
+    omega (arith, some, ap (λ (h : Held). h.room.ids) c.self.view_is)
+
+pub invariant_of-self : goal.invariant_of-self
+invariant_of-self c =
+    let b : Books = books_in c.self.inside.store_id c.self.inside.accounts.items c.self.inside.created.items c.self.inside.published.items in
+    let f : Fact = Published c.args.id c.args.news c.args.time in
+    let fits : Fits (sum_in b) f = subst (λ (h : Held). Fits (sum_in h.books) f) (sym c.self.view_is) c.requires.fits in
+    let w : Said = said.Published (length c.self.inside.published.items) in
+    let q : Publication = record { id = c.args.id; news = c.args.news; issued = map issued_of (made_by (sum_in b).parts f) } in
+    let may : MayTake b f w = may_publish b c.args.id c.args.news c.args.time c.self.invariant.0 fits in
+    let place : c.len-place.result ≡ length c.self.inside.published.items = omega (arith, c.len-place.ensures, c.self.inside.published.ok) in
+    let heard : map owing_in (take c.self.inside.accounts.len (c.hear_all.new.accounts ++ drop (length c.hear_all.new.accounts) c.self.inside.accounts.items))
+    ≡ map (owing_after f w) b.owings =
+    ap (map owing_in) (refilled c.self.inside.accounts.len c.hear_all.new.accounts c.self.inside.accounts.items (omega (arith, c.hear_all.auto.accounts, c.as_mut_slice.ensures.len)))
+    ∙ c.hear_all.ensures
+    ∙ ap (λ (bs : List Balance). map (owing_heard c.args.news c.args.time c.len-place.result) (map owing_in bs)) c.as_mut_slice.ensures.value
+    ∙ ap (λ (n : ℕ). map (owing_heard c.args.news c.args.time n) b.owings) place
+    ∙ heard_all c.args.id c.args.news c.args.time (length c.self.inside.published.items) b.owings in
+    let some : 0 < c.args.self.now.room.published = c.requires.room.space.0 in
+    let room : vec_len c.self.inside.published < vec_capacity c.self.inside.published = omega (arith, some, ap (λ (h : Held). h.room.published) c.self.view_is) in
+    let ok : IsOk c.push.result = c.push.ensures.succeeds room in
+    let issued : c.into_tokens-key.result.1 ≡ q.issued =
+    c.into_tokens-key.ensures.issued ∙ c.requires.room.spare.1 ∙ ap (λ (h : Held). map issued_of (made_by (sum_in h.books).parts f)) (sym c.self.view_is) in
+    let kept : c.push.new.self.items ≡ c.self.inside.published.items ++ q ∷ [] =
+    c.push.ensures.items
+    ∙ ap (λ t. if t then c.self.inside.published.items ++ c.of.result ∷ [] else c.self.inside.published.items) ok
+    ∙ ap (λ (p : Publication). c.self.inside.published.items ++ p ∷ []) c.of.ensures
+    ∙ ap (λ (l : List Issued). c.self.inside.published.items ++ record { id = c.args.id; news = c.args.news; issued = l } ∷ []) issued in
+    let with : List Owing → List Publication → Books = λ os ps. record { store_id = c.self.inside.store_id; owings = os; created = c.self.inside.created.items; published = ps } in
+    let is : with (map owing_in (take c.self.inside.accounts.len (c.hear_all.new.accounts ++ drop (length c.hear_all.new.accounts) c.self.inside.accounts.items))) c.push.new.self.items
+    ≡ taken b f w =
+    ap (λ l. with l c.push.new.self.items) heard ∙ ap (with (map (owing_after f w) b.owings)) kept in
+    let key : c.into_tokens-key.result.0 ≡ c.args.id = c.into_tokens-key.ensures.id ∙ c.requires.room.spare.0 in
+    let indexed : IsIndex (get bytes_eq c.enter_place.new.places) (c.self.inside.published.items ++ q ∷ []) =
+    index_after (get bytes_eq c.self.inside.places) (get bytes_eq c.enter_place.new.places) c.self.inside.published.items q c.self.invariant.1
+    (λ other. c.enter_place.ensures other
+    ∙ ap (λ (n : ℕ). with_first c.into_tokens-key.result.0 n other (get bytes_eq c.self.inside.places other)) place
+    ∙ ap (λ (k : List ℕ). with_first k (length c.self.inside.published.items) other (get bytes_eq c.self.inside.places other)) key) in
+    (subst AreKept (sym is) (taken_kept b f w may), subst (IsIndex (get bytes_eq c.enter_place.new.places)) (sym kept) indexed)
+
+pub returns : goal.returns
+returns c =
+    let b : Books = books_in c.self.inside.store_id c.self.inside.accounts.items c.self.inside.created.items c.self.inside.published.items in
+    let f : Fact = Published c.args.id c.args.news c.args.time in
+    let fits : Fits (sum_in b) f = subst (λ (h : Held). Fits (sum_in h.books) f) (sym c.self.view_is) c.requires.fits in
+    let w : Said = said.Published (length c.self.inside.published.items) in
+    let q : Publication = record { id = c.args.id; news = c.args.news; issued = map issued_of (made_by (sum_in b).parts f) } in
+    let may : MayTake b f w = may_publish b c.args.id c.args.news c.args.time c.self.invariant.0 fits in
+    let place : c.len-place.result ≡ length c.self.inside.published.items = omega (arith, c.len-place.ensures, c.self.inside.published.ok) in
+    let heard : map owing_in (take c.self.inside.accounts.len (c.hear_all.new.accounts ++ drop (length c.hear_all.new.accounts) c.self.inside.accounts.items))
+    ≡ map (owing_after f w) b.owings =
+    ap (map owing_in) (refilled c.self.inside.accounts.len c.hear_all.new.accounts c.self.inside.accounts.items (omega (arith, c.hear_all.auto.accounts, c.as_mut_slice.ensures.len)))
+    ∙ c.hear_all.ensures
+    ∙ ap (λ (bs : List Balance). map (owing_heard c.args.news c.args.time c.len-place.result) (map owing_in bs)) c.as_mut_slice.ensures.value
+    ∙ ap (λ (n : ℕ). map (owing_heard c.args.news c.args.time n) b.owings) place
+    ∙ heard_all c.args.id c.args.news c.args.time (length c.self.inside.published.items) b.owings in
+    let some : 0 < c.args.self.now.room.published = c.requires.room.space.0 in
+    let room : vec_len c.self.inside.published < vec_capacity c.self.inside.published = omega (arith, some, ap (λ (h : Held). h.room.published) c.self.view_is) in
+    let ok : IsOk c.push.result = c.push.ensures.succeeds room in
+    let issued : c.into_tokens-key.result.1 ≡ q.issued =
+    c.into_tokens-key.ensures.issued ∙ c.requires.room.spare.1 ∙ ap (λ (h : Held). map issued_of (made_by (sum_in h.books).parts f)) (sym c.self.view_is) in
+    let kept : c.push.new.self.items ≡ c.self.inside.published.items ++ q ∷ [] =
+    c.push.ensures.items
+    ∙ ap (λ t. if t then c.self.inside.published.items ++ c.of.result ∷ [] else c.self.inside.published.items) ok
+    ∙ ap (λ (p : Publication). c.self.inside.published.items ++ p ∷ []) c.of.ensures
+    ∙ ap (λ (l : List Issued). c.self.inside.published.items ++ record { id = c.args.id; news = c.args.news; issued = l } ∷ []) issued in
+    let with : List Owing → List Publication → Books = λ os ps. record { store_id = c.self.inside.store_id; owings = os; created = c.self.inside.created.items; published = ps } in
+    let is : with (map owing_in (take c.self.inside.accounts.len (c.hear_all.new.accounts ++ drop (length c.hear_all.new.accounts) c.self.inside.accounts.items))) c.push.new.self.items
+    ≡ taken b f w =
+    ap (λ l. with l c.push.new.self.items) heard ∙ ap (with (map (owing_after f w) b.owings)) kept in
+    ap sum_in is ∙ taken_sum b f w may ∙ ap (λ (h : Held). sum_of (sum_in h.books) (f ∷ [])) c.self.view_is

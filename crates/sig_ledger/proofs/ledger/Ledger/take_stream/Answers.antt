@@ -1,0 +1,95 @@
+use Rattle.std.proofs.Common.{◌≡◌, ◌∙◌, ap, sym, subst, List, [], ◌∷◌, ℕ, ◌+◌, ◌<◌, map, arith}
+use Rattle.sig_history.specs.Streams.{Count, client_in, created_by, count_one}
+use Rattle.sig_history.specs.Facts.{new_stream}
+use Rattle.sig_history.specs.Owed.{sum_of}
+use Rattle.sig_history.specs.Sound.{Fits}
+use Rattle.sig_history.proofs.WholeLemmas.{fits_brings}
+use Rattle.sig_json.specs.declared.limits.TheConstants.{LAST_NUMBER}
+use Rattle.sig_terms.specs.declared.fact.Fact.TheVariants.{Created}
+use Rattle.sig_ledger.specs.Books.{AreKept, Balance, Books, Owing, opened, owing_in, put_owing, sum_in}
+use Rattle.sig_ledger.specs.Room.{Held}
+use Rattle.sig_ledger.proofs.ChangedBooks.{books_in, nothing_said, put_owings, stream_for, with_stream, with_stream_is}
+use Rattle.sig_ledger.proofs.TakenBooks.{MayTake, taken_kept, taken_sum}
+use Rattle.sig_ledger.proofs.ledger.Ledger.take_stream.Goals as goal
+
+pub overflow_add-number : goal.overflow_add-number
+overflow_add-number c =
+    let b : Books = books_in c.self.inside.store_id c.self.inside.accounts.items c.self.inside.created.items c.self.inside.published.items in
+    let name : c.into_client-client.result ≡ client_in c.args.conf.stream = c.into_client-client.ensures ∙ (c.requires.room 0).spare in
+    let number : c.created_by-number.result ≡ created_by (client_in c.args.conf.stream) c.self.inside.created.items =
+    c.created_by-number.ensures ∙ ap (created_by c.into_client-client.result) c.as_slice.ensures.value
+    ∙ ap (λ (n : List ℕ). created_by n c.self.inside.created.items) name in
+    let fits : Fits (sum_in b) (Created c.args.conf 0) =
+    subst (λ (h : Held). Fits (sum_in h.books) (Created c.args.conf 0)) (sym c.self.view_is) (c.requires.fits 0) in
+    let below : created_by (client_in c.args.conf.stream) c.self.inside.created.items < LAST_NUMBER = (fits_brings (sum_in b) (Created c.args.conf 0) fits).below in
+    omega (arith, number)
+
+pub put-requires : goal.put-requires
+put-requires c =
+    let some : 0 < c.args.self.now.room.streams = (c.requires.room 0).space.0 in
+    omega (arith, some, ap (λ (h : Held). h.room.streams) c.self.view_is)
+
+pub count_one-requires-clause-room : goal.count_one-requires-clause-room
+count_one-requires-clause-room c =
+    let some : 0 < c.args.self.now.room.created = (c.requires.room 0).space.1 in
+    omega (arith, some, ap (λ (h : Held). h.room.created) c.self.view_is)
+
+pub count_one-requires-clause-number : goal.count_one-requires-clause-number
+count_one-requires-clause-number c =
+    let b : Books = books_in c.self.inside.store_id c.self.inside.accounts.items c.self.inside.created.items c.self.inside.published.items in
+    let name : c.into_client-client.result ≡ client_in c.args.conf.stream = c.into_client-client.ensures ∙ (c.requires.room 0).spare in
+    let fits : Fits (sum_in b) (Created c.args.conf 0) =
+    subst (λ (h : Held). Fits (sum_in h.books) (Created c.args.conf 0)) (sym c.self.view_is) (c.requires.fits 0) in
+    let below : created_by (client_in c.args.conf.stream) c.self.inside.created.items < LAST_NUMBER = (fits_brings (sum_in b) (Created c.args.conf 0) fits).below in
+    let same : created_by c.into_client-client.result c.self.inside.created.items ≡ created_by (client_in c.args.conf.stream) c.self.inside.created.items =
+    ap (λ (n : List ℕ). created_by n c.self.inside.created.items) name in
+    omega (arith, same)
+
+pub invariant_of-self : goal.invariant_of-self
+invariant_of-self c =
+    let b : Books = books_in c.self.inside.store_id c.self.inside.accounts.items c.self.inside.created.items c.self.inside.published.items in
+    let name : c.into_client-client.result ≡ client_in c.args.conf.stream = c.into_client-client.ensures ∙ (c.requires.room 0).spare in
+    let number : c.created_by-number.result ≡ created_by (client_in c.args.conf.stream) c.self.inside.created.items =
+    c.created_by-number.ensures ∙ ap (created_by c.into_client-client.result) c.as_slice.ensures.value
+    ∙ ap (λ (n : List ℕ). created_by n c.self.inside.created.items) name in
+    let put : map owing_in c.put.new.accounts.items ≡ put_owing (opened (stream_for b c.args.conf)) b.owings =
+    ap (map owing_in) c.put.ensures ∙ put_owings c.open-account.result c.self.inside.accounts.items
+    ∙ ap (λ (a : Balance). put_owing a.owing b.owings) c.open-account.ensures
+    ∙ ap (λ (k : ℕ). put_owing (opened (new_stream (client_in c.args.conf.stream) (k + 1) c.args.conf)) b.owings) number in
+    let counted : c.count_one.new.created.items ≡ count_one (client_in c.args.conf.stream) c.self.inside.created.items =
+    c.count_one.ensures ∙ ap (λ (n : List ℕ). count_one n c.self.inside.created.items) name in
+    let with : List Owing → List Count → Books = λ os cs. record { store_id = c.self.inside.store_id; owings = os; created = cs; published = c.self.inside.published.items } in
+    let is : with (map owing_in c.put.new.accounts.items) c.count_one.new.created.items ≡ with_stream b c.args.conf =
+    ap (λ l. with l c.count_one.new.created.items) put ∙ ap (with (put_owing (opened (stream_for b c.args.conf)) b.owings)) counted in
+    let may : (time : ℕ) → MayTake b (Created c.args.conf time) nothing_said = λ time. record {
+      kept = c.self.invariant.0;
+      fits = subst (λ (h : Held). Fits (sum_in h.books) (Created c.args.conf time)) (sym c.self.view_is) (c.requires.fits time);
+      says = λ s told. tt;
+      placed = tt;
+    } in
+    (subst AreKept (sym (is ∙ with_stream_is b c.args.conf 0)) (taken_kept b (Created c.args.conf 0) nothing_said (may 0)), c.self.invariant.1)
+
+pub returns : goal.returns
+returns c = λ time.
+    let b : Books = books_in c.self.inside.store_id c.self.inside.accounts.items c.self.inside.created.items c.self.inside.published.items in
+    let name : c.into_client-client.result ≡ client_in c.args.conf.stream = c.into_client-client.ensures ∙ (c.requires.room 0).spare in
+    let number : c.created_by-number.result ≡ created_by (client_in c.args.conf.stream) c.self.inside.created.items =
+    c.created_by-number.ensures ∙ ap (created_by c.into_client-client.result) c.as_slice.ensures.value
+    ∙ ap (λ (n : List ℕ). created_by n c.self.inside.created.items) name in
+    let put : map owing_in c.put.new.accounts.items ≡ put_owing (opened (stream_for b c.args.conf)) b.owings =
+    ap (map owing_in) c.put.ensures ∙ put_owings c.open-account.result c.self.inside.accounts.items
+    ∙ ap (λ (a : Balance). put_owing a.owing b.owings) c.open-account.ensures
+    ∙ ap (λ (k : ℕ). put_owing (opened (new_stream (client_in c.args.conf.stream) (k + 1) c.args.conf)) b.owings) number in
+    let counted : c.count_one.new.created.items ≡ count_one (client_in c.args.conf.stream) c.self.inside.created.items =
+    c.count_one.ensures ∙ ap (λ (n : List ℕ). count_one n c.self.inside.created.items) name in
+    let with : List Owing → List Count → Books = λ os cs. record { store_id = c.self.inside.store_id; owings = os; created = cs; published = c.self.inside.published.items } in
+    let is : with (map owing_in c.put.new.accounts.items) c.count_one.new.created.items ≡ with_stream b c.args.conf =
+    ap (λ l. with l c.count_one.new.created.items) put ∙ ap (with (put_owing (opened (stream_for b c.args.conf)) b.owings)) counted in
+    let may : (time : ℕ) → MayTake b (Created c.args.conf time) nothing_said = λ time. record {
+      kept = c.self.invariant.0;
+      fits = subst (λ (h : Held). Fits (sum_in h.books) (Created c.args.conf time)) (sym c.self.view_is) (c.requires.fits time);
+      says = λ s told. tt;
+      placed = tt;
+    } in
+    ap sum_in (is ∙ with_stream_is b c.args.conf time) ∙ taken_sum b (Created c.args.conf time) nothing_said (may time)
+    ∙ ap (λ (h : Held). sum_of (sum_in h.books) (Created c.args.conf time ∷ [])) c.self.view_is
