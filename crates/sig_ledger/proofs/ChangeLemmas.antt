@@ -1,5 +1,5 @@
 -- What the change of one stream leaves of all: a fact that names a stream leaves the others as they are.
-use Rattle.std.proofs.Common.{◌≡◌, ◌∙◌, ap, sym, subst, ℕ, suc, ◌+◌, ◌<◌, List, [], ◌∷◌, ◌++◌, map, filter, length, take, drop, get_or, Bool, true, false, not, ◌&&◌, ◌||◌, bytes_eq, Option, Some, None, if◌then◌else◌, refl, append-nil, arith}
+use Rattle.std.proofs.Common.{◌≡◌, ◌∙◌, ap, sym, subst, ℕ, suc, ◌+◌, ◌<◌, List, [], ◌∷◌, ◌++◌, map, filter, length, take, drop, get_or, Bool, true, false, not, ◌&&◌, ◌||◌, Option, Some, None, if◌then◌else◌, refl, append-nil, arith}
 use Rattle.std.specs.Prelude.{All, cond}
 use Rattle.std.proofs.lemmas.List.Elements.{All-get_or}
 use Rattle.std.specs.List.{position_or_len, remove}
@@ -14,7 +14,7 @@ use Rattle.sig_terms.specs.declared.fact.Fact.TheVariants.{Created, Configured, 
 use Rattle.sig_terms.specs.declared.configuration.StreamConf.{StreamConf}
 use Rattle.sig_event.specs.declared.news.News.{News}
 use Rattle.sig_history.specs.Streams.{Stream, is_disabled, is_due, is_named, list_added, list_removed, stands, with_asked, with_conf, with_listed, with_status}
-use Rattle.sig_history.specs.Facts.{configured, of_named, stream_after, told_one, updated_news, verified_news}
+use Rattle.sig_history.specs.Facts.{configured, of_named, told_one, updated_news, verified_news}
 use Rattle.sig_history.specs.Owed.{names_number}
 use Rattle.sig_history.proofs.StepLemmas.{AreDistinct}
 use Rattle.sig_ledger.specs.declared.debt.Debt.{Debt}

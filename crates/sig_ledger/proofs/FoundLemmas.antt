@@ -2,7 +2,7 @@
 use Rattle.std.proofs.Common.{◌≡◌, ap, ℕ, List, [], ◌∷◌, length, map, true, false, ◌||◌, None, Some, if◌then◌else◌, refl}
 use Rattle.std.specs.Prelude.{option_map}
 use Rattle.std.proofs.lemmas.List.{length-map}
-use Rattle.sig_history.specs.Streams.{Stream, Publication, Made, is_named, stands}
+use Rattle.sig_history.specs.Streams.{Publication, is_named, stands}
 use Rattle.sig_history.specs.Owed.{owed_in, owed_by, owed_count}
 use Rattle.sig_history.specs.Standings.{owed_in_standing, stream_in}
 use Rattle.sig_ledger.specs.Books.{Books, Owing, made_of, owing_named, standing_of, sum_in}

@@ -1,5 +1,5 @@
 -- The tokens that a fact makes, by stream and number.
-use Rattle.std.proofs.Common.{◌≡◌, ◌∙◌, ap, sym, ℕ, ◌+◌, List, [], ◌∷◌, ◌++◌, map, flat_map, Bool, true, false, ◌&&◌, Option, Some, None, if◌then◌else◌, refl}
+use Rattle.std.proofs.Common.{◌≡◌, ◌∙◌, ap, sym, ℕ, ◌+◌, List, [], ◌∷◌, ◌++◌, map, flat_map, Bool, true, false, ◌&&◌, Some, None, if◌then◌else◌, refl}
 use Rattle.std.proofs.lemmas.List.{map-append}
 use Rattle.sig_event.specs.declared.news.News.{News}
 use Rattle.sig_terms.specs.declared.fact.Fact.{Fact}

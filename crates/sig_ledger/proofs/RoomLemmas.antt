@@ -1,5 +1,5 @@
 -- Room that is held for tokens and subjects, and numbers that are left.
-use Rattle.std.proofs.Common.{◌≡◌, ◌∙◌, ap, sym, ℕ, ◌+◌, ◌≤◌, ◌<◌, List, [], ◌∷◌, ◌++◌, map, length, take, drop, get_or, Bool, true, false, refl, arith, All, OnOk, IfOk, Result, Ok, Err, subst, is_some, Option}
+use Rattle.std.proofs.Common.{◌≡◌, ◌∙◌, ap, sym, ℕ, ◌≤◌, List, [], ◌∷◌, ◌++◌, map, length, take, drop, Bool, true, false, refl, arith, All, OnOk, IfOk, Result, Ok, Err, subst, is_some, Option}
 use Rattle.std.proofs.Math.Seq.{take-append_seam}
 use Rattle.std.proofs.lemmas.List.Elements.{All-cons, All-nil, All-head, All-tail}
 use Rattle.sig_json.specs.declared.limits.TheConstants.{LAST_NUMBER}

@@ -1,4 +1,4 @@
-use Rattle.std.proofs.Common.{◌≡◌, List, filter, not, nat_eq, rules}
+use Rattle.std.proofs.Common.{◌≡◌, filter, not, nat_eq, rules}
 use Rattle.std.proofs.lemmas.Fn.{filter_same}
 use Rattle.indexmap.specs.IndexSet.{contains}
 use Rattle.sig_history.specs.Streams.{Stream, client_in}

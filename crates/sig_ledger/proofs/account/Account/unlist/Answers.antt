@@ -1,4 +1,4 @@
-use Rattle.std.proofs.Common.{◌≡◌, List, filter, not, rules}
+use Rattle.std.proofs.Common.{◌≡◌, not, rules}
 use Rattle.std.proofs.lemmas.Fn.{filter_same}
 use Rattle.sig_subject.specs.Matching.{is_identical}
 use Rattle.sig_subject.specs.declared.subject.Subject.{Subject}

@@ -1,6 +1,6 @@
-use Rattle.std.proofs.Common.{◌≡◌, ◌∙◌, sym, subst, ℕ, List, map}
+use Rattle.std.proofs.Common.{◌∙◌, sym, subst}
 use Rattle.sig_terms.specs.declared.fact.Fact.{Fact}
-use Rattle.sig_terms.specs.declared.fact.Fact.TheVariants.{Asked, Created, StatusSet}
+use Rattle.sig_terms.specs.declared.fact.Fact.TheVariants.{Created}
 use Rattle.sig_history.specs.Facts.{is_told}
 use Rattle.sig_history.specs.Sound.{Fits}
 use Rattle.sig_ledger.specs.Books.{sum_in}

@@ -1,5 +1,4 @@
-use Rattle.std.proofs.Common.{◌≡◌, ◌∙◌, ap, sym, subst, List, ℕ, map, flat_map, All}
-use Rattle.sig_terms.specs.declared.token.Issued.{Issued}
+use Rattle.std.proofs.Common.{◌≡◌, ◌∙◌, ap, sym, subst, List, map, flat_map, All}
 use Rattle.sig_history.specs.Streams.{Stream, issued_of}
 use Rattle.sig_history.specs.Facts.{made_by, token_for}
 use Rattle.sig_ledger.specs.Books.{Balance, issued_by, owing_in, stream_in, sum_in}

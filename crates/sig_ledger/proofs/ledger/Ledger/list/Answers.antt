@@ -1,4 +1,4 @@
-use Rattle.std.proofs.Common.{◌≡◌, ◌∙◌, ap, sym, subst, ℕ, ◌<◌, List, [], ◌∷◌, map, length, refl, arith}
+use Rattle.std.proofs.Common.{◌≡◌, ◌∙◌, ap, sym, subst, ◌<◌, List, [], ◌∷◌, map, length, refl, arith}
 use Rattle.std.specs.List.{position_or_len}
 use Rattle.std.proofs.Math.ListN.{set}
 use Rattle.sig_terms.specs.declared.fact.Fact.{Fact}

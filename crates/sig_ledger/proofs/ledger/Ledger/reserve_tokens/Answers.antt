@@ -1,4 +1,4 @@
-use Rattle.std.proofs.Common.{◌≡◌, ◌∙◌, ap, sym, subst, List, ◌++◌, map, length, take, drop, arith, All, OnOk}
+use Rattle.std.proofs.Common.{◌≡◌, sym, subst, List, ◌++◌, map, length, take, drop, arith, All}
 use Rattle.sig_history.specs.Facts.{is_told}
 use Rattle.sig_history.specs.Standings.{stream_in}
 use Rattle.sig_history.specs.Streams.{Stream}

@@ -1,4 +1,4 @@
-use Rattle.std.proofs.Common.{◌∙◌, ap, sym, ℕ, List, map}
+use Rattle.std.proofs.Common.{◌∙◌, ap, sym, List, map}
 use Rattle.std.specs.List.{slice_get}
 use Rattle.sig_history.specs.Streams.{Stream}
 use Rattle.sig_ledger.specs.Books.{Balance, Books, Owing, owing_in, sum_in}

@@ -1,4 +1,4 @@
-use Rattle.std.proofs.Common.{◌∙◌, ap, sym, ℕ, List, map}
+use Rattle.std.proofs.Common.{◌∙◌, ap, sym, List, map}
 use Rattle.sig_history.specs.Streams.{Stream, streams_of}
 use Rattle.sig_ledger.specs.Books.{Balance, owing_in, sum_in}
 use Rattle.sig_ledger.specs.Books as books

@@ -1,10 +1,10 @@
-use Rattle.std.proofs.Common.{◌≡◌, ◌∙◌, ap, sym, subst, ℕ, ◌<◌, List, [], ◌∷◌, map, length, refl, arith}
+use Rattle.std.proofs.Common.{◌≡◌, ◌∙◌, ap, sym, subst, ◌<◌, List, [], ◌∷◌, map, length, refl, arith}
 use Rattle.std.specs.List.{position_or_len}
 use Rattle.std.proofs.Math.ListN.{set}
 use Rattle.sig_terms.specs.declared.fact.Fact.{Fact}
 use Rattle.sig_history.specs.Owed.{sum_of}
 use Rattle.sig_history.specs.Sound.{Fits}
-use Rattle.sig_ledger.specs.Books.{Balance, Books, Owing, has_name, owing_in, sum_in}
+use Rattle.sig_ledger.specs.Books.{Balance, Books, has_name, owing_in, sum_in}
 use Rattle.sig_ledger.specs.Room.{Held}
 use Rattle.sig_terms.specs.declared.fact.Fact.TheVariants.{Asked}
 use Rattle.sig_ledger.specs.declared.debt.Said.TheVariants as said
