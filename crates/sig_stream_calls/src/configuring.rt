@@ -6,7 +6,7 @@ ghost use Rattle.sig_history.specs.Streams.{Stream};
 ghost use Rattle.sig_calls.specs.Configuring as table;
 ghost use Rattle.sig_calls.specs.Found.{told_by};
 ghost use Rattle.sig_calls.specs.Told.{only, outcome, with_change};
-ghost use Rattle.sig_ledger.specs.Books.{sum_in};
+ghost use Rattle.sig_ledger.specs.Books.{stream_in, sum_in};
 ghost use Rattle.sig_ledger.specs.Room.{HasRoom};
 ghost use Rattle.sig_ledger.specs.Steps.{reply_in};
 ghost use Rattle.std.specs.Prelude.{None, Some};
@@ -123,7 +123,7 @@ fn configure(
     want: &Want,
 ) -> Result<Turn, Memory>
     ensures { IfOk result (λ t. with_change t.answer t.change
-        ≡ told_by (table.reconfigured stream.now (wants.anew unnamed want.now)) (option_map (λ a. a.now.owing.stream) account)) }
+        ≡ told_by (table.reconfigured stream.now (wants.anew unnamed want.now)) (option_map stream_in (option_map (λ a. a.now.owing) account))) }
 {
     match account {
         None => Ok(Turn::not_found()),
@@ -141,7 +141,7 @@ fn configure(
 // How a client deletes the stream that is found.
 fn delete_turn(alloc: Global, account: Option<&Account>, stream: &Text) -> Result<Turn, Memory>
     ensures { IfOk result (λ t. with_change t.answer t.change
-        ≡ told_by (λ (s : Stream). with_change answer.Gone (Some (fact.Deleted stream.now))) (option_map (λ a. a.now.owing.stream) account)) }
+        ≡ told_by (λ (s : Stream). with_change answer.Gone (Some (fact.Deleted stream.now))) (option_map stream_in (option_map (λ a. a.now.owing) account))) }
 {
     match account {
         None => Ok(Turn::not_found()),

@@ -6,11 +6,10 @@ ghost use Rattle.sig_history.specs.Streams.{Stream};
 ghost use Rattle.sig_calls.specs.Configuring as table;
 ghost use Rattle.sig_calls.specs.Found.{told_by};
 ghost use Rattle.sig_calls.specs.Told.{only, outcome, with_change};
-ghost use Rattle.sig_ledger.specs.Books.{sum_in};
+ghost use Rattle.sig_ledger.specs.Books.{owing_in, stream_in, sum_in};
 ghost use Rattle.sig_ledger.specs.Room.{HasRoom};
 ghost use Rattle.sig_ledger.specs.Steps.{reply_in};
 ghost use Rattle.sig_terms.specs.declared.answer.Answer.TheVariants as answer;
-ghost use Rattle.sig_ledger.specs.Books.{owing_in, stream_in};
 
 use crate::turn::{Turn, finish};
 use sig_json::{Items, Memory, Text};
@@ -34,7 +33,7 @@ fn confs_of(alloc: Global, accounts: &[Account], client: &Text) -> Result<Items<
 // The configuration of the stream that is found.
 fn conf_turn(alloc: Global, account: Option<&Account>) -> Result<Turn, Memory>
     ensures { IfOk result (λ t. with_change t.answer t.change
-        ≡ told_by (λ (s : Stream). only (answer.Conf s.conf)) (option_map (λ a. a.now.owing.stream) account)) }
+        ≡ told_by (λ (s : Stream). only (answer.Conf s.conf)) (option_map stream_in (option_map (λ a. a.now.owing) account))) }
 {
     match account {
         None => Ok(Turn::not_found()),

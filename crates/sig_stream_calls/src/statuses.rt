@@ -6,7 +6,7 @@ ghost use Rattle.sig_history.specs.Streams.{Stream};
 ghost use Rattle.sig_calls.specs.Statuses as table;
 ghost use Rattle.sig_calls.specs.Found.{told_by};
 ghost use Rattle.sig_calls.specs.Told.{only, outcome, with_change};
-ghost use Rattle.sig_ledger.specs.Books.{sum_in};
+ghost use Rattle.sig_ledger.specs.Books.{stream_in, sum_in};
 ghost use Rattle.sig_ledger.specs.Room.{HasRoom};
 ghost use Rattle.sig_ledger.specs.Steps.{reply_in};
 
@@ -32,7 +32,7 @@ fn state_of(alloc: Global, account: &Account, stream: &Text) -> Result<Answer, M
 // The status of the stream that is found.
 fn state_turn(alloc: Global, account: Option<&Account>, stream: &Text) -> Result<Turn, Memory>
     ensures { IfOk result (λ t. with_change t.answer t.change
-        ≡ told_by (λ (s : Stream). only (table.state_of stream.now s)) (option_map (λ a. a.now.owing.stream) account)) }
+        ≡ told_by (λ (s : Stream). only (table.state_of stream.now s)) (option_map stream_in (option_map (λ a. a.now.owing) account))) }
 {
     match account {
         None => Ok(Turn::not_found()),
@@ -88,7 +88,7 @@ fn set_found(
     wished: &Wished<'_>,
 ) -> Result<Turn, Memory>
     ensures { IfOk result (λ t. with_change t.answer t.change
-        ≡ told_by (table.status_set stream.now wished.now.status wished.now.reason.now wished.now.time) (option_map (λ a. a.now.owing.stream) account)) }
+        ≡ told_by (table.status_set stream.now wished.now.status wished.now.reason.now wished.now.time) (option_map stream_in (option_map (λ a. a.now.owing) account))) }
 {
     match account {
         None => Ok(Turn::not_found()),

@@ -6,7 +6,7 @@ ghost use Rattle.sig_history.specs.Streams.{Stream};
 ghost use Rattle.sig_calls.specs.Subjects as table;
 ghost use Rattle.sig_calls.specs.Found.{told_by};
 ghost use Rattle.sig_calls.specs.Told.{only, outcome, with_change};
-ghost use Rattle.sig_ledger.specs.Books.{sum_in};
+ghost use Rattle.sig_ledger.specs.Books.{stream_in, sum_in};
 ghost use Rattle.sig_ledger.specs.Room.{HasRoom};
 ghost use Rattle.sig_ledger.specs.Steps.{reply_in};
 ghost use Rattle.sig_stream_calls.specs.Lists.{has_all};
@@ -51,7 +51,7 @@ fn add_turn(
     subject: &Subject,
 ) -> Result<Turn, Memory>
     ensures { IfOk result (λ t. with_change t.answer t.change
-        ≡ told_by (λ (s : Stream). with_change answer.Added (table.added_change s.conf.defaults stream.now subject.now s)) (option_map (λ a. a.now.owing.stream) account)) }
+        ≡ told_by (λ (s : Stream). with_change answer.Added (table.added_change s.conf.defaults stream.now subject.now s)) (option_map stream_in (option_map (λ a. a.now.owing) account))) }
 {
     match account {
         None => Ok(Turn::not_found()),
@@ -70,7 +70,7 @@ fn remove_turn(
     subject: &Subject,
 ) -> Result<Turn, Memory>
     ensures { IfOk result (λ t. with_change t.answer t.change
-        ≡ told_by (λ (s : Stream). with_change answer.Removed (table.removed_change s.conf.defaults stream.now subject.now s)) (option_map (λ a. a.now.owing.stream) account)) }
+        ≡ told_by (λ (s : Stream). with_change answer.Removed (table.removed_change s.conf.defaults stream.now subject.now s)) (option_map stream_in (option_map (λ a. a.now.owing) account))) }
 {
     match account {
         None => Ok(Turn::not_found()),
