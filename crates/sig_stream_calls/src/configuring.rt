@@ -9,7 +9,9 @@ ghost use Rattle.sig_calls.specs.Told.{only, outcome, with_change};
 ghost use Rattle.sig_ledger.specs.Books.{stream_in, sum_in};
 ghost use Rattle.sig_ledger.specs.Room.{HasRoom};
 ghost use Rattle.sig_ledger.specs.Steps.{reply_in};
-ghost use Rattle.std.specs.Prelude.{None, Some};
+ghost use Rattle.std.specs.Prelude.{None, Some, bytes_eq};
+ghost use Rattle.std.specs.Cmp.Lexicographic.{pointwise};
+ghost use Rattle.std.specs.Option.{option_eq};
 ghost use Rattle.sig_terms.specs.declared.answer.Answer.TheVariants as answer;
 ghost use Rattle.sig_terms.specs.declared.fact.Fact.TheVariants as fact;
 ghost use Rattle.sig_calls.specs.Equality as equality;
@@ -85,13 +87,32 @@ fn anew(
     })
 }
 
+// Whether the same event types are asked for.
+fn same_requested(one: &StreamConf, two: &StreamConf) -> bool
+    ensures { result ≡ option_eq (pointwise bytes_eq) one.now.requested two.now.requested }
+{
+    one.requested.same(&two.requested)
+}
+
+// Whether tokens reach the receiver in the same way.
+fn same_delivery(one: &StreamConf, two: &StreamConf) -> bool
+    ensures { result ≡ equality.delivery_eq one.now.delivery two.now.delivery }
+{
+    one.delivery.same(&two.delivery)
+}
+
+// Whether the receiver's own words are the same.
+fn same_description(one: &StreamConf, two: &StreamConf) -> bool
+    ensures { result ≡ option_eq bytes_eq one.now.description two.now.description }
+{
+    one.description.same(&two.description)
+}
+
 // Whether two configurations have the same parts that a receiver may set.
 fn same_settings(one: &StreamConf, two: &StreamConf) -> bool
     ensures { result ≡ equality.same_settings one.now two.now }
 {
-    one.requested.same(&two.requested)
-        && one.delivery.same(&two.delivery)
-        && one.description.same(&two.description)
+    same_requested(one, two) && same_delivery(one, two) && same_description(one, two)
 }
 
 // The fact that makes of one configuration another, where something differs.
@@ -123,7 +144,7 @@ fn configure(
     want: &Want,
 ) -> Result<Turn, Memory>
     ensures { IfOk result (λ t. with_change t.answer t.change
-        ≡ told_by (table.reconfigured stream.now (wants.anew unnamed want.now)) (option_map stream_in (option_map (λ a. a.now.owing) account))) }
+        ≡ told_by (table.reconfigured stream.now (wants.anew unnamed want.now)) (option_map stream_in (option_map (λ a. a.now.owing) account.entry))) }
 {
     match account {
         None => Ok(Turn::not_found()),
@@ -141,7 +162,7 @@ fn configure(
 // How a client deletes the stream that is found.
 fn delete_turn(alloc: Global, account: Option<&Account>, stream: &Text) -> Result<Turn, Memory>
     ensures { IfOk result (λ t. with_change t.answer t.change
-        ≡ told_by (λ (s : Stream). with_change answer.Gone (Some (fact.Deleted stream.now))) (option_map stream_in (option_map (λ a. a.now.owing) account))) }
+        ≡ told_by (λ (s : Stream). with_change answer.Gone (Some (fact.Deleted stream.now))) (option_map stream_in (option_map (λ a. a.now.owing) account.entry))) }
 {
     match account {
         None => Ok(Turn::not_found()),

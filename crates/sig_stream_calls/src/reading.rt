@@ -33,7 +33,7 @@ fn confs_of(alloc: Global, accounts: &[Account], client: &Text) -> Result<Items<
 // The configuration of the stream that is found.
 fn conf_turn(alloc: Global, account: Option<&Account>) -> Result<Turn, Memory>
     ensures { IfOk result (λ t. with_change t.answer t.change
-        ≡ told_by (λ (s : Stream). only (answer.Conf s.conf)) (option_map stream_in (option_map (λ a. a.now.owing) account))) }
+        ≡ told_by (λ (s : Stream). only (answer.Conf s.conf)) (option_map stream_in (option_map (λ a. a.now.owing) account.entry))) }
 {
     match account {
         None => Ok(Turn::not_found()),

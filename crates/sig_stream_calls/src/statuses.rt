@@ -32,7 +32,7 @@ fn state_of(alloc: Global, account: &Account, stream: &Text) -> Result<Answer, M
 // The status of the stream that is found.
 fn state_turn(alloc: Global, account: Option<&Account>, stream: &Text) -> Result<Turn, Memory>
     ensures { IfOk result (λ t. with_change t.answer t.change
-        ≡ told_by (λ (s : Stream). only (table.state_of stream.now s)) (option_map stream_in (option_map (λ a. a.now.owing) account))) }
+        ≡ told_by (λ (s : Stream). only (table.state_of stream.now s)) (option_map stream_in (option_map (λ a. a.now.owing) account.entry))) }
 {
     match account {
         None => Ok(Turn::not_found()),
@@ -88,7 +88,7 @@ fn set_found(
     wished: &Wished<'_>,
 ) -> Result<Turn, Memory>
     ensures { IfOk result (λ t. with_change t.answer t.change
-        ≡ told_by (table.status_set stream.now wished.now.status wished.now.reason.now wished.now.time) (option_map stream_in (option_map (λ a. a.now.owing) account))) }
+        ≡ told_by (table.status_set stream.now wished.now.status wished.now.reason.now wished.now.time) (option_map stream_in (option_map (λ a. a.now.owing) account.entry))) }
 {
     match account {
         None => Ok(Turn::not_found()),

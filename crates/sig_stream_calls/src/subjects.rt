@@ -51,7 +51,7 @@ fn add_turn(
     subject: &Subject,
 ) -> Result<Turn, Memory>
     ensures { IfOk result (λ t. with_change t.answer t.change
-        ≡ told_by (λ (s : Stream). with_change answer.Added (table.added_change s.conf.defaults stream.now subject.now s)) (option_map stream_in (option_map (λ a. a.now.owing) account))) }
+        ≡ told_by (λ (s : Stream). with_change answer.Added (table.added_change s.conf.defaults stream.now subject.now s)) (option_map stream_in (option_map (λ a. a.now.owing) account.entry))) }
 {
     match account {
         None => Ok(Turn::not_found()),
@@ -70,7 +70,7 @@ fn remove_turn(
     subject: &Subject,
 ) -> Result<Turn, Memory>
     ensures { IfOk result (λ t. with_change t.answer t.change
-        ≡ told_by (λ (s : Stream). with_change answer.Removed (table.removed_change s.conf.defaults stream.now subject.now s)) (option_map stream_in (option_map (λ a. a.now.owing) account))) }
+        ≡ told_by (λ (s : Stream). with_change answer.Removed (table.removed_change s.conf.defaults stream.now subject.now s)) (option_map stream_in (option_map (λ a. a.now.owing) account.entry))) }
 {
     match account {
         None => Ok(Turn::not_found()),
