@@ -1,8 +1,8 @@
 ghost use Rattle.std.specs.Prelude.{◌≡◌, [], ◌∷◌, IfOk, length, map, option_map, is_some};
 ghost use Rattle.sig_json.specs.Answers.{Answers, result_map};
 
-use sig_json::Text;
 use crate::dispatch::dispatch;
+use sig_json::Text;
 use sig_ledger::{Ledger, Prepared, Step};
 use sig_terms::{Call, PrepareFault, Rules};
 use std::alloc::Global;

@@ -20,9 +20,7 @@ ghost use Rattle.sig_stream_calls.specs.Wants as wants;
 use crate::turn::{Turn, finish};
 use sig_json::{Items, Memory, Same, Text, copy_items, copy_optional};
 use sig_ledger::{Account, Ledger, Step};
-use sig_terms::{
-    Answer, Delivery, Fact, PrepareFault, StreamConf, Want, copy_optional_items,
-};
+use sig_terms::{Answer, Delivery, Fact, PrepareFault, StreamConf, Want, copy_optional_items};
 use std::alloc::Global;
 
 /// What becomes of the parts of a configuration that a want doesn't name.
@@ -209,15 +207,15 @@ pub fn put(
 }
 
 /// How a client deletes a stream.
-pub fn delete(
-    ledger: &mut Ledger,
-    client: &Text,
-    stream: &Text,
-) -> Result<Step, PrepareFault>
+pub fn delete(ledger: &mut Ledger, client: &Text, stream: &Text) -> Result<Step, PrepareFault>
     ensures keeps { ledger.new.books ≡ ledger.old.books }
     ensures answers { Answers PrepareFault.Memory (result_map reply_in result) (outcome (table.deleting (sum_in ledger.old.books).parts client.now stream.now)) }
     ensures room { IfOk result (λ step. IfSome step.change (HasRoom (sum_in ledger.new.books).parts ledger.new.room)) }
 {
-    let turn = delete_turn(ledger.alloc(), ledger.client_account(client, stream), stream)?;
+    let turn = delete_turn(
+        ledger.alloc(),
+        ledger.client_account(client, stream),
+        stream,
+    )?;
     finish(ledger, turn)
 }

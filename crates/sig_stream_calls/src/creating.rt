@@ -12,8 +12,8 @@ ghost use Rattle.sig_ledger.specs.Room.{HasRoom};
 ghost use Rattle.sig_ledger.specs.Steps.{reply_in};
 
 use crate::clients::client_named;
-use sig_json::limits::{LAST_NUMBER, STREAMS_PER_CLIENT};
 use crate::turn::{Turn, finish};
+use sig_json::limits::{LAST_NUMBER, STREAMS_PER_CLIENT};
 use sig_json::{Memory, Text, copy_items, copy_optional};
 use sig_ledger::{Ledger, Step, stream_name};
 use sig_terms::{

@@ -45,10 +45,7 @@ fn conf_turn(alloc: Global, account: Option<&Account>) -> Result<Turn, Memory>
 }
 
 /// How a client reads all its streams: in order of number.
-pub fn read_all(
-    ledger: &mut Ledger,
-    client: &Text,
-) -> Result<Step, PrepareFault>
+pub fn read_all(ledger: &mut Ledger, client: &Text) -> Result<Step, PrepareFault>
     ensures keeps { ledger.new.books ≡ ledger.old.books }
     ensures answers { Answers PrepareFault.Memory (result_map reply_in result) (outcome (table.reading_all (sum_in ledger.old.books).parts client.now)) }
     ensures room { IfOk result (λ step. IfSome step.change (HasRoom (sum_in ledger.new.books).parts ledger.new.room)) }
@@ -58,11 +55,7 @@ pub fn read_all(
 }
 
 /// How a client reads one stream.
-pub fn read(
-    ledger: &mut Ledger,
-    client: &Text,
-    stream: &Text,
-) -> Result<Step, PrepareFault>
+pub fn read(ledger: &mut Ledger, client: &Text, stream: &Text) -> Result<Step, PrepareFault>
     ensures keeps { ledger.new.books ≡ ledger.old.books }
     ensures answers { Answers PrepareFault.Memory (result_map reply_in result) (outcome (table.reading (sum_in ledger.old.books).parts client.now stream.now)) }
     ensures room { IfOk result (λ step. IfSome step.change (HasRoom (sum_in ledger.new.books).parts ledger.new.room)) }

@@ -97,16 +97,16 @@ fn set_found(
 }
 
 /// How a client reads a status, with the reason of the fact that set it.
-pub fn get_status(
-    ledger: &mut Ledger,
-    client: &Text,
-    stream: &Text,
-) -> Result<Step, PrepareFault>
+pub fn get_status(ledger: &mut Ledger, client: &Text, stream: &Text) -> Result<Step, PrepareFault>
     ensures keeps { ledger.new.books ≡ ledger.old.books }
     ensures answers { Answers PrepareFault.Memory (result_map reply_in result) (outcome (table.reading_status (sum_in ledger.old.books).parts client.now stream.now)) }
     ensures room { IfOk result (λ step. IfSome step.change (HasRoom (sum_in ledger.new.books).parts ledger.new.room)) }
 {
-    let turn = state_turn(ledger.alloc(), ledger.client_account(client, stream), stream)?;
+    let turn = state_turn(
+        ledger.alloc(),
+        ledger.client_account(client, stream),
+        stream,
+    )?;
     finish(ledger, turn)
 }
 
