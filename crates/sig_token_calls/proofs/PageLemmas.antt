@@ -79,16 +79,16 @@ open_passed p ds i d within closed =
 
 pub open_next : (p : Debt → Bool) (ds : List Debt) (i : ℕ) (d : Debt) → i < length ds → p (get_or ds i d) ≡ true
     → filter p (drop i ds) ≡ get_or ds i d ∷ filter p (drop (i + 1) ds)
-open_next p ds i d within open =
+open_next p ds i d within opened =
     ap (filter p) (parts_at ds i d within)
-    ∙ ap (λ b. if b then get_or ds i d ∷ filter p (drop (i + 1) ds) else filter p (drop (i + 1) ds)) open
+    ∙ ap (λ b. if b then get_or ds i d ∷ filter p (drop (i + 1) ds) else filter p (drop (i + 1) ds)) opened
 
 -- a full page ends before it
 pub page_full : (delivery : Delivery) (room : ℕ) (tokens : List Token) (f : Debt → Made) (p : Debt → Bool) (ds : List Debt) (i : ℕ) (d : Debt) → i < length ds
     → p (get_or ds i d) ≡ true → room ≡ 0
     → page_step delivery room tokens (map f (filter p (drop i ds))) ≡ Sets tokens true
-page_full delivery room tokens f p ds i d within open none =
-    ap (λ l. page_step delivery room tokens (map f l)) (open_next p ds i d within open)
+page_full delivery room tokens f p ds i d within opened none =
+    ap (λ l. page_step delivery room tokens (map f l)) (open_next p ds i d within opened)
     ∙ ap (λ k. page_step delivery k tokens (f (get_or ds i d) ∷ map f (filter p (drop (i + 1) ds)))) none
 
 -- it is put on one that has room
@@ -96,8 +96,8 @@ pub page_more : (delivery : Delivery) (room : ℕ) (tokens : List Token) (f : De
     → p (get_or ds i d) ≡ true → (room == 0) ≡ false
     → page_step delivery room tokens (map f (filter p (drop i ds)))
     ≡ page_step delivery (room - 1) (tokens ++ token_of delivery (f (get_or ds i d)) ∷ []) (map f (filter p (drop (i + 1) ds)))
-page_more delivery room tokens f p ds i d within open some =
-    ap (λ l. page_step delivery room tokens (map f l)) (open_next p ds i d within open)
+page_more delivery room tokens f p ds i d within opened some =
+    ap (λ l. page_step delivery room tokens (map f l)) (open_next p ds i d within opened)
     ∙ ap (λ b. if b then Sets tokens true
     else page_step delivery (room - 1) (tokens ++ token_of delivery (f (get_or ds i d)) ∷ []) (map f (filter p (drop (i + 1) ds)))) some
 
@@ -115,7 +115,7 @@ items_more f xs i d within =
 -- ---- debts that are open
 
 -- what was looked up in the numbers is what the items name
-pub open_from : (items : List SettledItem) (published : List Publication) (s : Stream) (named : ℕ → Bool) (d : Debt) (open t : Bool)
-    → ((n : ℕ) → named n ≡ names_number n items) → open ≡ (not (named d.number) && offers published s d) → open ≡ t
+pub open_from : (items : List SettledItem) (published : List Publication) (s : Stream) (named : ℕ → Bool) (d : Debt) (opened t : Bool)
+    → ((n : ℕ) → named n ≡ names_number n items) → opened ≡ (not (named d.number) && offers published s d) → opened ≡ t
     → (not (names_number d.number items) && offers published s d) ≡ t
-open_from items published s named d open t same is how = ap (λ b. not b && offers published s d) (sym (same d.number)) ∙ sym is ∙ how
+open_from items published s named d opened t same is how = ap (λ b. not b && offers published s d) (sym (same d.number)) ∙ sym is ∙ how

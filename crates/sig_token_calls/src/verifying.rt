@@ -60,6 +60,15 @@ fn early_answer(asked: Option<u64>, interval: u64, now: u64) -> Option<Answer>
     }
 }
 
+fn asked_answer(alloc: Global, stream: &Text, number: u64) -> Result<Answer, Memory>
+    ensures { IfOk result (λ a. a ≡ answer.Asked stream.now number) }
+{
+    Ok(Answer::Asked {
+        stream: stream.copy(alloc)?,
+        number,
+    })
+}
+
 fn asked_fact(alloc: Global, stream: &Text, state: &Option<Text>, now: u64) -> Result<Fact, Memory>
     ensures { IfOk result (λ f. f ≡ fact.Asked stream.now state.now now) }
 {
@@ -84,10 +93,7 @@ fn ask(
     ensures room { IfOk result (λ step. IfSome step.change (HasRoom (sum_in ledger.new.books).parts ledger.new.room)) }
 {
     let alloc = ledger.alloc();
-    let answer = Answer::Asked {
-        stream: stream.copy(alloc)?,
-        number,
-    };
+    let answer = asked_answer(alloc, stream, number)?;
     let fact = asked_fact(alloc, stream, state, now)?;
     make(ledger, answer, fact)
 }
@@ -111,11 +117,11 @@ pub fn verify(
     match ledger.client_account(client, stream) {
         None => Ok(Step::only(Answer::NotFound)),
         Some(account) => {
-            if let Some(answer) = refusal(account, now) {
-                return Ok(Step::only(answer));
+            let number = account.made();
+            match refusal(account, now) {
+                Some(answer) => Ok(Step::only(answer)),
+                None => ask(ledger, stream, number + 1, state, now),
             }
-            let number = account.made() + 1;
-            ask(ledger, stream, number, state, now)
         }
     }
 }
