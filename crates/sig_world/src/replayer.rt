@@ -165,8 +165,8 @@ impl Replayer {
     fn check(&self, number: u64, subject: &Subject, text: &mut Bytes) -> Result<(), Memory>
         ensures { OnOk result ((world : World) → IsAt self.now world → Goes (played_check number world subject.now) self.now text.old text.new) }
     {
-        let verdict = self.receiver.verdict(subject);
-        add_verdict(self.alloc, text, number, verdict.allow)
+        let told = self.receiver.verdict(subject);
+        add_verdict(self.alloc, text, number, told.allow)
     }
 
     fn answer(&mut self, number: u64, place: u64, text: &mut Bytes) -> Result<(), TellFault>
