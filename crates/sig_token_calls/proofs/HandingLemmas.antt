@@ -1,5 +1,5 @@
 -- Names that come first, and tokens up to a page.
-use Rattle.std.proofs.Common.{◌≡◌, ◌∙◌, ap, sym, ℕ, zero, suc, ◌+◌, ◌-◌, ◌<◌, ◌≤◌, List, [], ◌∷◌, ◌++◌, length, map, take, drop, get_or, Bool, true, false, ◌||◌, bytes_eq, None, Some, Ok, if◌then◌else◌, refl, append_assoc, arith, add-one}
+use Rattle.std.proofs.Common.{◌≡◌, ◌∙◌, ap, sym, ℕ, zero, suc, ◌+◌, ◌-◌, ◌<◌, ◌≤◌, List, [], ◌∷◌, ◌++◌, length, map, take, drop, get_or, Bool, true, false, not, ◌||◌, bytes_eq, None, Some, Ok, if◌then◌else◌, refl, append_assoc, arith, add-one}
 use Rattle.std.specs.Prelude.{flat_map}
 use Rattle.std.specs.List.{list_any}
 use Rattle.std.specs.Option.{option_map_or}
@@ -8,7 +8,7 @@ use Rattle.std.proofs.lemmas.Slice.Eq.{bytes_eq-Decides}
 use Rattle.sig_terms.specs.Deliveries.{is_push}
 use Rattle.sig_terms.specs.declared.answer.Answer.TheVariants as answer
 use Rattle.sig_terms.specs.declared.token.Token.{Token}
-use Rattle.sig_history.specs.Streams.{Stream, token_of}
+use Rattle.sig_history.specs.Streams.{Stream, Made, token_of}
 use Rattle.sig_history.specs.Owed.{Sum, offered_by}
 use Rattle.sig_calls.specs.Found.{told_by}
 use Rattle.sig_calls.specs.Handing.{delivering, first_names, pushed_by}
@@ -102,6 +102,27 @@ page_stays (suc n) (t ∷ ts) ys is = ap (λ l. t ∷ l) (page_stays n ts ys (om
 -- one that has room takes so many more
 pub page_takes : (size room : ℕ) (tokens ys : List Token) → length tokens + room ≡ size → take size (tokens ++ ys) ≡ tokens ++ take room ys
 page_takes size room tokens ys is = ap (λ n. take n (tokens ++ ys)) (sym is) ∙ take-append-add tokens ys room
+
+pub take_none : (n : ℕ) (ts : List Token) → ts ≡ [] → ts ≡ take n ts
+take_none n [] is = none n
+  where
+    none : (n : ℕ) → [] ≡ take n []
+    none zero = refl
+    none (suc n) = refl
+take_none n (t ∷ ts) is = cc
+
+pub map_taken : (f : Made → Token) (n : ℕ) (ts : List Made) → map f (take n ts) ≡ take n (map f ts)
+map_taken f zero ts = refl
+map_taken f (suc n) [] = refl
+map_taken f (suc n) (t ∷ ts) = ap (λ l. f t ∷ l) (map_taken f n ts)
+
+pub from_not_true : (b first : Bool) → first ≡ not b → first ≡ true → b ≡ false
+from_not_true true first is how = sym how ∙ is
+from_not_true false first is how = refl
+
+pub from_not_false : (b first : Bool) → first ≡ not b → first ≡ false → b ≡ true
+from_not_false true first is how = refl
+from_not_false false first is how = sym how ∙ is
 
 -- ---- the stream of a name
 

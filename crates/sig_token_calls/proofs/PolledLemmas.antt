@@ -1,5 +1,5 @@
 -- How a poll is answered, by the stream that is found.
-use Rattle.std.proofs.Common.{◌≡◌, ◌∙◌, ap, sym, ℕ, List, [], ◌∷◌, map, false, true, Option, None, Some, Ok, if◌then◌else◌, refl}
+use Rattle.std.proofs.Common.{◌≡◌, ◌∙◌, ap, sym, ℕ, List, [], ◌∷◌, map, false, true, Option, None, Some, Result, Ok, Err, IfOk, if◌then◌else◌, refl}
 use Rattle.std.specs.List.{cons_option}
 use Rattle.std.specs.Option.{option_to_list}
 use Rattle.sig_terms.specs.Deliveries.{is_push}
@@ -7,6 +7,8 @@ use Rattle.sig_terms.specs.Reply.{Reply}
 use Rattle.sig_terms.specs.declared.answer.Answer.{Answer}
 use Rattle.sig_terms.specs.declared.answer.Answer.TheVariants.{NotFound}
 use Rattle.sig_terms.specs.declared.call.PollAsk.{PollAsk}
+use Rattle.sig_terms.specs.declared.fault.PrepareFault.{PrepareFault}
+use Rattle.sig_token_calls.specs.declared.reply.Reply as replies
 use Rattle.sig_terms.specs.declared.fact.Fact.{Fact}
 use Rattle.sig_terms.specs.declared.fact.SettledItem.{SettledItem}
 use Rattle.sig_history.specs.Streams.{Stream, Publication, Made, jti_of}
@@ -31,6 +33,12 @@ settled_tokens : (ask : PollAsk) (sid : List ℕ) (published : List Publication)
 settled_tokens ask sid published s [] = refl
 settled_tokens ask sid published s (d ∷ ds) =
     ap (cons_option (settled_by ask d.number (jti_of sid s.conf.stream d.number))) (settled_tokens ask sid published s ds)
+
+-- what is told holds of each reply that is this one
+pub told_if_ok : {E : Type 0} (told : Result Reply PrepareFault) (r : replies.Reply) (x : Result replies.Reply E) → told ≡ Ok (told_as r)
+    → IfOk x (λ (y : replies.Reply). y ≡ r) → IfOk x (λ (y : replies.Reply). told ≡ Ok (told_as y))
+told_if_ok told r (Ok y) is same = is ∙ ap (λ z. Ok (told_as z)) (sym same)
+told_if_ok told r (Err e) is same = tt
 
 -- there is no such stream
 pub not_polled : (b : Books) (client stream : List ℕ) (ask : PollAsk) → None ≡ client_owing client stream b.owings

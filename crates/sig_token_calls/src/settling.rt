@@ -1,17 +1,19 @@
 //! How the answer to a token that was brought to its receiver is taken (RFC 8935, section 2).
 
-ghost use Rattle.std.specs.Prelude.{◌≡◌, ◌==◌, IfOk, IfSome, Some};
+ghost use Rattle.std.specs.Prelude.{◌≡◌, ◌==◌, IfOk, IfSome, Some, length};
 ghost use Rattle.std.specs.List.{list_any};
 ghost use Rattle.std.specs.Option.{option_to_list};
 ghost use Rattle.sig_json.specs.Answers.{Answers, result_map};
 ghost use Rattle.sig_calls.specs.Settling as table;
 ghost use Rattle.sig_calls.specs.Told as told;
+ghost use Rattle.sig_terms.specs.declared.answer.Answer.TheVariants as answer;
 ghost use Rattle.sig_ledger.specs.Books.{owing_named, sum_in};
 ghost use Rattle.sig_ledger.specs.Room.{HasRoom};
 ghost use Rattle.sig_ledger.specs.declared.debt.Debt.{Debt};
 ghost use Rattle.sig_ledger.specs.Steps.{reply_in};
 ghost use Rattle.sig_token_calls.specs.Replies.{items_for};
 
+use crate::reply::Reply;
 use sig_json::{Items, Memory, Text};
 use sig_ledger::{Account, Debt, Ledger, Step};
 use sig_terms::{Answer, Fact, Outcome, PrepareFault, SettledItem};
@@ -104,6 +106,18 @@ pub(crate) fn settled_change(
     }))
 }
 
+// How many tokens were settled, and the fact of it.
+fn settled_reply(alloc: Global, stream: &Text, items: Vec<SettledItem>) -> Result<Reply, Memory>
+    ensures { IfOk result (λ r. r ≡ record { answer = answer.Settled (length items.items); change = table.settled_fact stream.now items.items }) }
+{
+    let count = items.len() as u64;
+    let change = settled_change(alloc, stream, items)?;
+    Ok(Reply {
+        answer: Answer::Settled { count },
+        change,
+    })
+}
+
 /// How an answer to a token is taken (RFC 8935, section 2).
 pub fn settle(
     ledger: &mut Ledger,
@@ -117,8 +131,7 @@ pub fn settle(
     ensures room { IfOk result (λ step. IfSome step.change (HasRoom (sum_in ledger.new.books).parts ledger.new.room)) }
 {
     let items = settled_on(ledger, stream, number, outcome)?;
-    let count = items.len() as u64;
-    let change = settled_change(ledger.alloc(), stream, items)?;
-    let step = ledger.step(Answer::Settled { count }, change)?;
+    let reply = settled_reply(ledger.alloc(), stream, items)?;
+    let step = ledger.step(reply.answer, reply.change)?;
     Ok(step)
 }

@@ -5,7 +5,7 @@ use Rattle.indexmap.specs.IndexSet.{contains}
 use Rattle.sig_ledger.specs.declared.debt.Debt.{Debt}
 use Rattle.sig_terms.specs.declared.token.Token.{Token}
 use Rattle.sig_terms.specs.declared.want.Delivery.{Delivery}
-use Rattle.sig_history.specs.Streams.{Made, Stream}
+use Rattle.sig_history.specs.Streams.{Made, Stream, token_of}
 use Rattle.sig_history.specs.Owed.{names_number}
 use Rattle.sig_ledger.specs.Books.{made_of}
 use Rattle.sig_token_calls.specs.Offering.{offers, page_on}
@@ -20,8 +20,10 @@ returns-then-room-eq0 c =
     let p : Debt → Bool = λ (d : Debt). not (names_number d.number c.args.items.now) && offers c.args.published.now s d in
     ap (λ l. Sets l true) c.of-tokens.ensures
     ∙ sym (c.loop-debt.invariant
-    ∙ page_full s.conf.delivery c.loop-debt.room c.loop-debt.tokens.items f p c.owed-owed.result.now c.loop-debt.debt-index _ (omega arith)
-    (open_from c.args.items.now c.args.published.now s (contains nat_eq c.in_ok-named.named) _ c.is_open.result true c.in_ok-named.ensures c.is_open.ensures c.if-is_open.true) (omega arith))
+    ∙ page_full s.conf.delivery c.loop-debt.room c.loop-debt.tokens.items f p c.owed-owed.result.now c.loop-debt.debt-index c.debt-item.result (omega arith)
+    (ap p (sym c.debt-item.is)
+    ∙ open_from c.args.items.now c.args.published.now s (contains nat_eq c.in_ok-named.named) c.debt-item.result c.is_open.result true c.in_ok-named.ensures c.is_open.ensures c.if-is_open.true)
+    (omega arith))
     ∙ page_is s.conf.delivery c.args.size (map f (filter p c.owed-owed.result.now))
     ∙ ap (λ (ds : List Debt). page_on s.conf.delivery c.args.size (map f (filter p ds))) c.owed-owed.ensures
 
@@ -35,9 +37,11 @@ loop-debt-preserved c =
     elim c.if-is_open.branch [
       | then-is_open+else-room-eq0+in_ok-token+in_ok-push w ↦
           c.loop-debt.invariant
-          ∙ page_more to c.loop-debt.room c.loop-debt.tokens.items f p c.owed-owed.result.now c.loop-debt.debt-index _ (omega arith)
-          (open_from c.args.items.now c.args.published.now s (contains nat_eq c.in_ok-named.named) _ c.is_open.result true c.in_ok-named.ensures c.is_open.ensures w.if-is_open.true)
+          ∙ page_more to c.loop-debt.room c.loop-debt.tokens.items f p c.owed-owed.result.now c.loop-debt.debt-index c.debt-item.result (omega arith)
+          (ap p (sym c.debt-item.is)
+          ∙ open_from c.args.items.now c.args.published.now s (contains nat_eq c.in_ok-named.named) c.debt-item.result c.is_open.result true c.in_ok-named.ensures c.is_open.ensures w.if-is_open.true)
           (some_room c.loop-debt.room (omega (arith, w.if-room-eq0)))
+          ∙ ap (λ (d : Debt). page_step to (c.loop-debt.room - 1) (c.loop-debt.tokens.items ++ token_of to (f d) ∷ []) rest) (sym c.debt-item.is)
           ∙ ap (λ (t : Token). page_step to (c.loop-debt.room - 1) (c.loop-debt.tokens.items ++ t ∷ []) rest) (sym w.in_ok-token.ensures)
           ∙ ap (λ (l : List Token). page_step to (c.loop-debt.room - 1) l rest) (sym (w.push.ensures.items
           ∙ ap (λ b. if b then c.loop-debt.tokens.items ++ w.in_ok-token.token ∷ [] else c.loop-debt.tokens.items) (ap is_ok w.in_ok-push.was)))
@@ -46,8 +50,9 @@ loop-debt-preserved c =
       | else-is_open w ↦
           c.loop-debt.invariant
           ∙ ap (λ (ds : List Debt). page_step to c.loop-debt.room c.loop-debt.tokens.items (map f ds))
-          (open_passed p c.owed-owed.result.now c.loop-debt.debt-index _ (omega arith)
-          (open_from c.args.items.now c.args.published.now s (contains nat_eq c.in_ok-named.named) _ c.is_open.result false c.in_ok-named.ensures c.is_open.ensures w.if-is_open.false))
+          (open_passed p c.owed-owed.result.now c.loop-debt.debt-index c.debt-item.result (omega arith)
+          (ap p (sym c.debt-item.is)
+          ∙ open_from c.args.items.now c.args.published.now s (contains nat_eq c.in_ok-named.named) c.debt-item.result c.is_open.result false c.in_ok-named.ensures c.is_open.ensures w.if-is_open.false))
           ∙ ap (λ (k : ℕ). page_step to k c.loop-debt.tokens.items rest) (sym w.room-is)
           ∙ ap (λ (v : Vec Token Global). page_step to c.if-is_open.room v.items rest) (sym w.tokens-is)
     ]
