@@ -73,11 +73,11 @@ client_named_in sid created published client name (p ∷ ps) o is whole =
     → (if bytes_eq p.stream.client client && b then Some p else client_owing client name ps) ≡ Some o
     → (if b then Some p else owing_named name ps) ≡ Some o) [
       | true ↦ λ same is. (elim (bytes_eq p.stream.client client) as (λ c. (if c && true then Some p else client_owing client name ps) ≡ Some o → Some p ≡ Some o) [
-          | true ↦ λ is. is
-          | false ↦ λ is. (let twice : true ≡ false =
-              sym (client_stands sid published client name ps o is)
-              ∙ ap (λ n. stands n (map stream_in (map (standing_of sid published) ps))) (sym (same refl)) ∙ whole.1 in cc)
-        ] is)
+        | true ↦ λ is. is
+        | false ↦ λ is. (let twice : true ≡ false =
+            sym (client_stands sid published client name ps o is)
+            ∙ ap (λ n. stands n (map stream_in (map (standing_of sid published) ps))) (sym (same refl)) ∙ whole.1 in cc)
+      ] is)
       | false ↦ λ same is. client_named_in sid created published client name ps o
           (sym (ap (λ t. if t then Some p else client_owing client name ps) (and_false (bytes_eq p.stream.client client))) ∙ is) whole.3
     ] same is

@@ -104,12 +104,10 @@ pub page_takes : (size room : ℕ) (tokens ys : List Token) → length tokens + 
 page_takes size room tokens ys is = ap (λ n. take n (tokens ++ ys)) (sym is) ∙ take-append-add tokens ys room
 
 pub take_none : (n : ℕ) (ts : List Token) → ts ≡ [] → ts ≡ take n ts
-take_none n [] is = none n
-  where
-    none : (n : ℕ) → [] ≡ take n []
-    none zero = refl
-    none (suc n) = refl
-take_none n (t ∷ ts) is = cc
+take_none zero [] is = refl
+take_none (suc n) [] is = refl
+take_none zero (t ∷ ts) is = cc
+take_none (suc n) (t ∷ ts) is = cc
 
 pub map_taken : (f : Made → Token) (n : ℕ) (ts : List Made) → map f (take n ts) ≡ take n (map f ts)
 map_taken f zero ts = refl

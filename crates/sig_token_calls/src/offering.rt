@@ -57,12 +57,7 @@ fn offers(published: &[Publication], account: &Account, debt: &Debt) -> bool
 }
 
 // Whether a stream offers a token that it owes, and no item names it.
-fn is_open(
-    published: &[Publication],
-    account: &Account,
-    named: &IndexSet<u64>,
-    debt: &Debt,
-) -> bool
+fn is_open(published: &[Publication], account: &Account, named: &IndexSet<u64>, debt: &Debt) -> bool
     requires { IsPlaced (length published.now) debt.now.said }
     ensures { result ≡ (not (contains nat_eq named.now debt.now.number) && offering.offers published.now account.now.owing.stream debt.now) }
 {

@@ -86,7 +86,7 @@ fn set(
     ensures keeps { ledger.new.books ≡ ledger.old.books }
     ensures answers { Answers PrepareFault.Memory (result_map reply_in result)
         (outcome (making (sum_in ledger.old.books).parts (answer.State stream.now status reason.now (Some number))
-            (fact.StatusSet stream.now status reason.now true now))) }
+        (fact.StatusSet stream.now status reason.now true now))) }
     ensures room { IfOk result (λ step. IfSome step.change (HasRoom (sum_in ledger.new.books).parts ledger.new.room)) }
 {
     let alloc = ledger.alloc();

@@ -33,18 +33,20 @@ loop-name-preserved c =
           w.in_ok-push_offered.ensures ∙ ap (λ (n : List ℕ). take TOKENS_PER_PAGE (c.loop-name.tokens.items ++ f n)) c.name-item.is in
           let cut : length w.push_offered.new.tokens.items ≡ min TOKENS_PER_PAGE (length (c.loop-name.tokens.items ++ f (get_or names c.loop-name.name-index name))) =
           ap length added ∙ length-take TOKENS_PER_PAGE (c.loop-name.tokens.items ++ f (get_or names c.loop-name.name-index name)) in
-          let short : length w.push_offered.new.tokens.items ≤ TOKENS_PER_PAGE = omega (arith, cut) in
-          (subst (λ (v : Vec Token Global). length v.items ≤ TOKENS_PER_PAGE) (sym w.tokens-is) short,
-          c.loop-name.invariant.1
-          ∙ name_added TOKENS_PER_PAGE f c.loop-name.tokens.items w.push_offered.new.tokens.items seen after names c.loop-name.name-index name (omega arith)
-          (ap seen (sym c.name-item.is) ∙ from_not_true (seen name) c.in_ok-is_first.field-0 c.in_ok-is_first.ensures.first w.if-branch.true) so added
-          ∙ ap (λ (v : Vec Token Global). page_of_names TOKENS_PER_PAGE f v.items after (drop (c.loop-name.name-index + 1) names)) (sym w.tokens-is)))
-      | else-branch w ↦
-          (subst (λ (v : Vec Token Global). length v.items ≤ TOKENS_PER_PAGE) (sym w.tokens-is) c.loop-name.invariant.0,
-          c.loop-name.invariant.1
-          ∙ name_passed TOKENS_PER_PAGE f c.loop-name.tokens.items seen after names c.loop-name.name-index name (omega arith)
-          (ap seen (sym c.name-item.is) ∙ from_not_false (seen name) c.in_ok-is_first.field-0 c.in_ok-is_first.ensures.first w.if-branch.false) so
-          ∙ ap (λ (v : Vec Token Global). page_of_names TOKENS_PER_PAGE f v.items after (drop (c.loop-name.name-index + 1) names)) (sym w.tokens-is))
+          let short : length w.push_offered.new.tokens.items ≤ TOKENS_PER_PAGE = omega (arith, cut) in (
+            subst (λ (v : Vec Token Global). length v.items ≤ TOKENS_PER_PAGE) (sym w.tokens-is) short,
+            c.loop-name.invariant.1
+                ∙ name_added TOKENS_PER_PAGE f c.loop-name.tokens.items w.push_offered.new.tokens.items seen after names c.loop-name.name-index name (omega arith)
+                (ap seen (sym c.name-item.is) ∙ from_not_true (seen name) c.in_ok-is_first.field-0 c.in_ok-is_first.ensures.first w.if-branch.true) so added
+                ∙ ap (λ (v : Vec Token Global). page_of_names TOKENS_PER_PAGE f v.items after (drop (c.loop-name.name-index + 1) names)) (sym w.tokens-is),
+          ))
+      | else-branch w ↦ (
+        subst (λ (v : Vec Token Global). length v.items ≤ TOKENS_PER_PAGE) (sym w.tokens-is) c.loop-name.invariant.0,
+        c.loop-name.invariant.1
+            ∙ name_passed TOKENS_PER_PAGE f c.loop-name.tokens.items seen after names c.loop-name.name-index name (omega arith)
+            (ap seen (sym c.name-item.is) ∙ from_not_false (seen name) c.in_ok-is_first.field-0 c.in_ok-is_first.ensures.first w.if-branch.false) so
+            ∙ ap (λ (v : Vec Token Global). page_of_names TOKENS_PER_PAGE f v.items after (drop (c.loop-name.name-index + 1) names)) (sym w.tokens-is),
+      )
     ]
 
 pub returns : goal.returns
