@@ -76,7 +76,7 @@ pub(crate) fn dispatch(
             reason,
         } => operator_status(ledger, stream, *status, reason, now),
         Call::Deliver { stream } => deliver(ledger, stream),
-        Call::Hand { streams } => hand(ledger, streams),
+        Call::Hand { streams } => hand(ledger, streams.as_slice()),
         Call::Settle {
             stream,
             number,

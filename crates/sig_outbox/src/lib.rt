@@ -12,8 +12,6 @@
 
 mod dispatch;
 mod outbox;
-#[cfg(test)]
-mod tests;
 mod threads;
 
 pub use outbox::Outbox;
