@@ -126,13 +126,14 @@ impl Replayer {
         ensures stops { IfErr result (λ fault. (world : World) → IsAt self.old world → GoesNot (played number world bytes.now) fault) }
     {
         match script_line(self.alloc, bytes) {
-            Ok(Some(line)) => self.play_line(number, line, text),
+            Ok(Some(line)) => self.play_owned(number, line, text),
             Ok(None) => Err(refused(number)),
             Err(Memory) => Err(TellFault::Memory),
         }
     }
 
-    fn play_line(
+    // The line is dropped by itself, so that this function has no part of its many kinds.
+    fn play_owned(
         &mut self,
         number: u64,
         line: ScriptLine,
@@ -142,13 +143,28 @@ impl Replayer {
         ensures plays { OnOk result ((world : World) → IsAt self.old world → Goes (played_line number world line) self.new text.old text.new) }
         ensures stops { IfErr result (λ fault. (world : World) → IsAt self.old world → GoesNot (played_line number world line) fault) }
     {
+        let done = self.play_line(number, &line, text);
+        drop(line);
+        done
+    }
+
+    fn play_line(
+        &mut self,
+        number: u64,
+        line: &ScriptLine,
+        text: &mut Bytes,
+    ) -> Result<(), TellFault>
+        requires { (world : World) × IsAt self.old world }
+        ensures plays { OnOk result ((world : World) → IsAt self.old world → Goes (played_line number world line.now) self.new text.old text.new) }
+        ensures stops { IfErr result (λ fault. (world : World) → IsAt self.old world → GoesNot (played_line number world line.now) fault) }
+    {
         match line {
             ScriptLine::Skipped => Ok(()),
-            ScriptLine::Time { time } => Ok(self.pass(number, time, text)?),
-            ScriptLine::Call(call) => self.call(number, &call, text),
-            ScriptLine::Deliver { message } => self.deliver(number, message, text),
-            ScriptLine::Answer { reply } => self.answer(number, reply, text),
-            ScriptLine::Check { subject } => Ok(self.check(number, &subject, text)?),
+            ScriptLine::Time { time } => Ok(self.pass(number, *time, text)?),
+            ScriptLine::Call(call) => self.call(number, call, text),
+            ScriptLine::Deliver { message } => self.deliver(number, *message, text),
+            ScriptLine::Answer { reply } => self.answer(number, *reply, text),
+            ScriptLine::Check { subject } => Ok(self.check(number, subject, text)?),
         }
     }
 
@@ -176,11 +192,22 @@ impl Replayer {
     {
         match counted(self.replies.as_slice(), place) {
             None => Err(refused(number)),
-            Some(reply) => {
-                let call = settle_call(self.alloc, reply)?;
-                self.call(number, &call, text)
-            }
+            Some(reply) => match settle_call(self.alloc, reply) {
+                Ok(call) => self.bring(number, call, text),
+                Err(Memory) => Err(TellFault::Memory),
+            },
         }
+    }
+
+    // A call of the replay's own; it is dropped by itself, so that this function has no part of its many kinds.
+    fn bring(&mut self, number: u64, call: Call, text: &mut Bytes) -> Result<(), TellFault>
+        requires { (world : World) × IsAt self.old world }
+        ensures plays { OnOk result ((world : World) → IsAt self.old world → Goes (played_call number world call) self.new text.old text.new) }
+        ensures stops { IfErr result (λ fault. (world : World) → IsAt self.old world → GoesNot (played_call number world call) fault) }
+    {
+        let done = self.call(number, &call, text);
+        drop(call);
+        done
     }
 
     fn deliver(&mut self, number: u64, place: u64, text: &mut Bytes) -> Result<(), TellFault>
