@@ -46,7 +46,7 @@ pub record Spells (e : Endpoint) (url : List ℕ) : Type 0 where
 
 -- ---- the reading
 
--- whether it is secure, and what stands behind the scheme
+-- whether it is secure, and what stands after the scheme
 abbrev pub scheme_in : List ℕ → Option (Bool × List ℕ)
 scheme_in url =
     if starts_with nat_eq url (scheme_of true) then Some (true, drop (length (scheme_of true)) url)
@@ -68,7 +68,7 @@ abbrev pub number_in : List ℕ → Option ℕ
 number_in text =
     if nat_lt 48 (slice_index text 0) && all_ascii_digits text && nat_lt (digits_value 10 text) (2 ^ 16) then Some (digits_value 10 text) else None
 
--- the port of an authority: the number behind its first colon, and that of the scheme where there is none
+-- the port of an authority: the number after its first colon, and that of the scheme where there is none
 abbrev pub port_in : Bool → List ℕ → Option ℕ
 port_in secure authority =
     if nat_lt (position_or_len is_colon authority) (length authority) then number_in (after_first is_colon authority) else Some (default_port secure)
@@ -89,7 +89,7 @@ endpoint_at secure authority path =
     (port_in secure authority)
     else None
 
--- the endpoint of what stands behind a scheme: the authority ends at the first slash
+-- the endpoint of what stands after a scheme: the authority ends at the first slash
 abbrev pub endpoint_behind : Bool × List ℕ → Option Endpoint
 endpoint_behind s = endpoint_at s.0 (before_first is_slash s.1) (from_slash s.1)
 

@@ -28,7 +28,7 @@ pub fn endpoint_of(alloc: Global, url: &str) -> Result<Option<Endpoint>, Memory>
     }
 }
 
-// The endpoint of what stands behind the scheme.
+// The endpoint of what stands after the scheme.
 fn endpoint_behind(alloc: Global, secure: bool, rest: &str) -> Result<Option<Endpoint>, Memory>
     ensures { IfOk result (λ e. e ≡ spec.endpoint_behind (secure, rest.now)) }
 {
