@@ -1,5 +1,6 @@
 pub mod JoinLemmas
 pub mod StreamLemmas
+pub mod SizeLemmas
 pub mod StepLemmas
 pub mod WholeLemmas
 pub mod SoundLemmas

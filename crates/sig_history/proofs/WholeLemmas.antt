@@ -18,10 +18,11 @@ use Rattle.sig_terms.specs.declared.fact.Fact.TheVariants.{Created, Configured, 
 use Rattle.sig_history.specs.Streams.{Stream, Count, Publication, Parts, Made, client_in, comes_before, count_one, created_by, hyphen, is_before, is_named, stands, stream_name}
 use Rattle.sig_history.specs.Facts.{brought_by, counted, made_by, removed_by, stream_after, tells, time_of, token_by, token_for, told_one, without}
 use Rattle.sig_history.specs.Owed.{Sum, sum_of, takes_off}
-use Rattle.sig_history.specs.Sound.{Fits, is_apt, is_client_name, is_long, is_next, is_past, may_be_made}
+use Rattle.sig_history.specs.Sound.{Fits, is_apt, is_client_name, is_long, is_next, is_past, is_small, may_be_made}
 use Rattle.sig_history.specs.Standings.{Standing, owed_in_standing, placed_standing, put_standing, standing_after, stream_in, sum_with, without_standing}
 use Rattle.sig_history.specs.Whole.{AreSorted, AreWhole, IsOwnToken, IsRising, IsWhole, IsWholeStream, StandsBefore}
 use Rattle.sig_history.proofs.StreamLemmas.{IsSameStream, absent_without, after_same, changed_made, counts_grow, one_counted, order_after, other_text, same_text, stands_after, stands_put, text_itself}
+use Rattle.sig_history.proofs.SizeLemmas.{IsSmallStream, SetsSmall, after_small, fits_sets}
 use Rattle.sig_history.proofs.StepLemmas.{AreDistinct, IsFresh, after_streams, name_of, put_streams, stepped_sum, without_streams}
 
 -- ---- streams with what they owe
@@ -104,9 +105,9 @@ made_low sid time s t (Some n) same low few =
     let parts = or_parts (nat_lt LAST_NUMBER (s.made + 1)) false few in
     let next : s.made + 1 ≤ LAST_NUMBER = ltb-false LAST_NUMBER (s.made + 1) parts.0 in omega arith
 
-after_whole : (sid : List ℕ) (created : List Count) (f : Fact) (s : Standing) → list_any is_past (token_for sid f s.stream) ≡ false
+after_whole : (sid : List ℕ) (created : List Count) (f : Fact) (s : Standing) → SetsSmall f → list_any is_past (token_for sid f s.stream) ≡ false
     → IsWholeStream sid created s.stream s.owed → IsWholeStream sid created (standing_after sid f s).stream (standing_after sid f s).owed
-after_whole sid created f s few whole =
+after_whole sid created f s sets few whole =
     let t : Stream = stream_after f s.stream in
     let same : IsSameStream s.stream t = after_same f s.stream in
     let keeps : Made → Bool = λ u. not (takes_off (name_of s) f u) in
@@ -115,6 +116,7 @@ after_whole sid created f s few whole =
       client = ap client_in same.name ∙ whole.client ∙ sym same.client;
       number = subst (λ c. t.number ≤ created_by c created) (sym same.client) (subst (λ n. n ≤ created_by s.stream.client created) (sym same.number) whole.number);
       top = subst (λ n. n ≤ LAST_NUMBER) (sym same.number) whole.top;
+      small = after_small f s.stream sets whole.small;
       made = made_low sid (time_of f) s.stream _ (tells f s.stream) (changed_made f s.stream) whole.made few;
       rising = rising_told sid (time_of f) s.stream _ (tells f s.stream) (filter keeps s.owed) (changed_made f s.stream)
           (rising_filter keeps 0 s.stream.made s.owed whole.rising);
@@ -129,20 +131,20 @@ before_after : (f : Fact) (s : Stream) (ss : List Stream) → StandsBefore s ss 
 before_after f s [] before = tt
 before_after f s (t ∷ ts) before = order_after f s t ∙ before
 
-all_after : (sid : List ℕ) (created : List Count) (f : Fact) (ss : List Standing)
+all_after : (sid : List ℕ) (created : List Count) (f : Fact) (ss : List Standing) → SetsSmall f
     → list_any is_past (flat_map (token_for sid f) (map stream_in ss)) ≡ false
     → AreWholeStandings sid created ss → AreWholeStandings sid created (map (standing_after sid f) ss)
-all_after sid created f [] few whole = tt
-all_after sid created f (s ∷ ss) few whole =
+all_after sid created f [] sets few whole = tt
+all_after sid created f (s ∷ ss) sets few whole =
     let rest : List Made = flat_map (token_for sid f) (map stream_in ss) in
     let parts = or_parts (list_any is_past (token_for sid f s.stream)) (list_any is_past rest)
     (sym (list_any-append is_past (token_for sid f s.stream) rest) ∙ few) in
     let streams : map stream_in (map (standing_after sid f) ss) ≡ map (stream_after f) (map stream_in ss) = after_streams sid f ss in (
-      after_whole sid created f s parts.0 whole.0,
+      after_whole sid created f s sets parts.0 whole.0,
       ap (stands (stream_after f s.stream).conf.stream) streams ∙ stands_after (stream_after f s.stream).conf.stream f (map stream_in ss)
           ∙ ap (λ name. stands name (map stream_in ss)) (after_same f s.stream).name ∙ whole.1,
       subst (StandsBefore (stream_after f s.stream)) (sym streams) (before_after f s.stream (map stream_in ss) whole.2),
-      all_after sid created f ss parts.1 whole.3,
+      all_after sid created f ss sets parts.1 whole.3,
     )
 
 -- ---- a stream that is taken away
@@ -224,6 +226,7 @@ pub record IsNextStream (created : List Count) (s : Stream) : Type 0 where
   pub name : s.conf.stream ≡ stream_name s.client s.number
   pub number : s.number ≡ created_by s.client created + 1
   pub below : created_by s.client created < LAST_NUMBER
+  pub small : IsSmallStream s
   pub made : s.made ≡ 0
 
 abbrev pub BringsNext : List Count → Option Stream → Type 0
@@ -234,8 +237,9 @@ pub fits_brings : (sum : Sum) (f : Fact) → Fits sum f → BringsNext sum.parts
 fits_brings sum (Created conf time) fits =
     let client : List ℕ = client_in conf.stream in
     let count : ℕ = created_by client sum.parts.created in
-    let apt = and_parts (may_be_made (made_by sum.parts (Created conf time))) (is_next sum.parts client conf.stream) fits in
-    let low = and_parts _ (nat_lt count LAST_NUMBER) apt.1 in
+    let apt = and_parts (may_be_made (made_by sum.parts (Created conf time))) (is_apt sum (Created conf time)) fits in
+    let next = and_parts (is_next sum.parts client conf.stream) (is_small conf.requested conf.delivery conf.description) apt.1 in
+    let low = and_parts _ (nat_lt count LAST_NUMBER) next.0 in
     let few = and_parts _ _ low.0 in
     let named = and_parts (is_client_name client) _ few.0 in
     record {
@@ -244,6 +248,7 @@ fits_brings sum (Created conf time) fits =
       name = same_text conf.stream _ named.1;
       number = refl;
       below = ltb-true count LAST_NUMBER low.1;
+      small = next.1;
       made = refl;
     }
 fits_brings sum (Configured stream requested delivery description) fits = tt
@@ -313,6 +318,7 @@ recounted sid client created s o whole =
       client = whole.client;
       number = omega arith;
       top = whole.top;
+      small = whole.small;
       made = whole.made;
       rising = whole.rising;
       own = whole.own;
@@ -343,6 +349,7 @@ new_whole sid created n next =
       client = next.client;
       number = omega arith;
       top = omega arith;
+      small = next.small;
       made = omega arith;
       rising = omega arith;
       own = All-nil (IsOwnToken sid n.conf.stream);
@@ -396,7 +403,8 @@ whole_step sid ss created published f whole fits =
     (sym (stepped_sum sid ss created published f (whole_distinct sid created (map stream_in ss) (map owed_in_standing ss) whole)
     (whole_fresh sid created brought (map stream_in ss) (map owed_in_standing ss) next whole)))
     (placed_whole sid created brought (without_standing (removed_by f) (map (standing_after sid f) ss)) next
-    (without_whole sid created (removed_by f) (map (standing_after sid f) ss) (all_after sid created f ss (few_past base f fits) whole)))
+    (without_whole sid created (removed_by f) (map (standing_after sid f) ss)
+    (all_after sid created f ss (fits_sets base f fits) (few_past base f fits) whole)))
 
 pub whole_after : (sum : Sum) (f : Fact) → IsWhole sum → Fits sum f → IsWhole (sum_of sum (f ∷ []))
 whole_after sum f whole fits =

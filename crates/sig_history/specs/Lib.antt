@@ -1,6 +1,7 @@
 pub mod Streams
 pub mod Facts
 pub mod Owed
+pub mod Sizes
 pub mod Sound
 pub mod Whole
 pub mod Standings

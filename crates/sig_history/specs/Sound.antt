@@ -1,14 +1,17 @@
 -- Facts that fit a history.
-use Rattle.std.specs.Prelude.{◌≡◌, ℕ, List, [], ◌∷◌, ◌+◌, ◌==◌, Bool, true, not, ◌&&◌, ◌||◌, bytes_eq, length, max, nat_lt, nat_le}
+use Rattle.std.specs.Prelude.{◌≡◌, ℕ, List, [], ◌∷◌, ◌+◌, ◌==◌, Bool, true, not, ◌&&◌, ◌||◌, Option, bytes_eq, length, max, nat_lt, nat_le}
 use Rattle.std.specs.List.{list_any, list_all}
 use Rattle.sig_json.specs.declared.limits.TheConstants.{LAST_NUMBER, PAYLOAD_BYTES, STREAMS_PER_CLIENT, CLIENT_NAME_BYTES}
 use Rattle.sig_set.specs.Written.{payload_text_of}
 use Rattle.sig_terms.specs.declared.fact.Fact.{Fact}
 use Rattle.sig_terms.specs.declared.fact.Fact.TheVariants.{Created, Configured, StatusSet, Listed, Unlisted, Deleted, Published, Settled, Asked}
 use Rattle.sig_terms.specs.declared.fact.SettledItem.{SettledItem}
+use Rattle.sig_terms.specs.declared.want.Delivery.{Delivery}
+use Rattle.sig_history.specs.declared.limits.TheConstants.{SETTING_BYTES, SETTING_ITEMS}
 use Rattle.sig_history.specs.Streams.{Parts, Made, client_in, stream_name, created_by, stands, streams_of}
 use Rattle.sig_history.specs.Facts.{made_by}
 use Rattle.sig_history.specs.Owed.{Sum, names_number, owed_by, sum_of}
+use Rattle.sig_history.specs.Sizes.{delivery_bytes, given_bytes, requested_bytes, requested_items}
 
 -- a character of a client's name: `a-z` or `0-9`
 abbrev pub is_name_character : ℕ → Bool
@@ -57,10 +60,20 @@ each_once (i ∷ items) = not (names_number i.number items) && each_once items
 abbrev pub are_owed : List SettledItem → List Made → Bool
 are_owed items owed = list_all (λ (i : SettledItem). has_number i.number owed) items
 
+-- what a receiver sets of a stream is within the limits: what it requests, where its tokens are sent, and its own words
+abbrev pub is_small : Option (List (List ℕ)) → Delivery → Option (List ℕ) → Bool
+is_small requested delivery description =
+    nat_le (requested_bytes requested) SETTING_BYTES
+    && nat_le (requested_items requested) SETTING_ITEMS
+    && nat_le (delivery_bytes delivery) SETTING_BYTES
+    && nat_le (given_bytes description) SETTING_BYTES
+
 -- whether the streams and tokens that a fact names are there, and what it brings may be brought
 abbrev pub is_apt : Sum → Fact → Bool
-is_apt sum (Created conf time) = is_next sum.parts (client_in conf.stream) conf.stream
-is_apt sum (Configured stream requested delivery description) = stands stream sum.parts.streams
+is_apt sum (Created conf time) =
+    is_next sum.parts (client_in conf.stream) conf.stream && is_small conf.requested conf.delivery conf.description
+is_apt sum (Configured stream requested delivery description) =
+    stands stream sum.parts.streams && is_small requested delivery description
 is_apt sum (StatusSet stream status reason operator time) = stands stream sum.parts.streams
 is_apt sum (Listed stream subject) = stands stream sum.parts.streams
 is_apt sum (Unlisted stream subject) = stands stream sum.parts.streams

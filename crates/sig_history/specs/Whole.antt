@@ -3,6 +3,7 @@ use Rattle.std.specs.Prelude.{◌≡◌, ◌≤◌, ◌<◌, ℕ, List, [], ◌�
 use Rattle.sig_json.specs.declared.limits.TheConstants.{LAST_NUMBER}
 use Rattle.sig_history.specs.Streams.{Stream, Count, Made, client_in, created_by, is_before, jti_of, stands, stream_name}
 use Rattle.sig_history.specs.Owed.{Sum}
+use Rattle.sig_history.specs.Sound.{is_small}
 
 -- a stream stands before the next one, where there is one
 abbrev pub StandsBefore : Stream → List Stream → Type 0
@@ -24,13 +25,15 @@ pub record IsOwnToken (store_id name : List ℕ) (t : Made) : Type 0 where
   pub stream : t.stream ≡ name
   pub jti : t.claims.jti ≡ jti_of store_id name t.number
 
--- a stream and what it owes: its name is that of its client and number, which the client's count has reached; the tokens
--- that it owes are its own, and their numbers rise up to the number of those that were made
+-- a stream and what it owes: its name is that of its client and number, which the client's count has reached; what its
+-- receiver set of it is within the limits; the tokens that it owes are its own, and their numbers rise up to the number of
+-- those that were made
 pub record IsWholeStream (store_id : List ℕ) (created : List Count) (s : Stream) (owed : List Made) : Type 0 where
   pub name : s.conf.stream ≡ stream_name s.client s.number
   pub client : client_in s.conf.stream ≡ s.client
   pub number : s.number ≤ created_by s.client created
   pub top : s.number ≤ LAST_NUMBER
+  pub small : is_small s.conf.requested s.conf.delivery s.conf.description ≡ true
   pub made : s.made ≤ LAST_NUMBER
   pub rising : IsRising 0 owed s.made
   pub own : All (IsOwnToken store_id s.conf.stream) owed
