@@ -11,12 +11,7 @@ use serde_json::{Map, Value};
 fn is_listed(name: &str, names: &[&str]) -> bool
     ensures { result ≡ list_any (bytes_eq name.now) (map (λ n. n.now) names.now) }
 {
-    for listed in names {
-        if name == *listed {
-            return true;
-        }
-    }
-    false
+    names.contains(&name)
 }
 
 /// The first member, in byte order, that is neither `format` nor one of these.
