@@ -7,10 +7,9 @@ documents; nothing in it comes from the program under test.
 """
 import re
 import sys
-import uuid
 
-from cases import table
-from cases.events import CAEP, PREFIX, RISC, check_event
+from cases import streams, table
+from cases.events import PREFIX
 from cases.subjects import check_subject, same
 from cases.values import Fault, NotJson, dump, read
 
@@ -20,8 +19,7 @@ PAGE, MOST_STREAMS, INTERVAL = 32, 16, 60
 CLIENTS = ["acme", "zeta"]
 ISSUER, AUDIENCE = "https://idp.example", "https://rp.example"
 STORE = "6ba7b810-9dad-11d1-80b4-00c04fd430c8"
-PUBLISHED = [PREFIX + "caep/event-type/" + name for name in CAEP] + [PREFIX + "risc/event-type/" + name for name in RISC]
-POLL, PUSH = "urn:ietf:rfc:8936", "urn:ietf:rfc:8935"
+BY_POLL = {"method": "poll"}
 VERIFICATION, UPDATED = (PREFIX + "ssf/event-type/" + name for name in ["verification", "stream-updated"])
 
 
@@ -63,87 +61,26 @@ def body(text):
         raise Refused from None
 
 
-def has_kind(value, test):
-    if not test(value):
-        raise Refused
-
-
-def is_text(value):
-    return isinstance(value, str)
-
-
-def is_texts(value):
-    return isinstance(value, list) and all(map(is_text, value))
-
-
-def endpoint(url):
-    """A URL of the one form that push endpoints have; without a gateway none of them is `https`."""
-    host = re.fullmatch("http://([A-Za-z0-9.-]+)(:([1-9][0-9]*))?(/[!-~]*)?", url, re.A) if is_text(url) else None
-    if host is None or host[3] and int(host[3]) > 65535:
-        raise Refused
-    return url
-
-
-def delivery(given):
-    has_kind(given, lambda value: isinstance(value, dict))
-    method = given.get("method", POLL)
-    if method == POLL:
-        return (POLL,)
-    if method != PUSH:
-        raise Refused
-    url = endpoint(given.get("endpoint_url"))
-    authorization = given.get("authorization_header", "")
-    has_kind(authorization, lambda value: is_text(value) and re.fullmatch("[ -~]*", value))
-    return (PUSH, url, given.get("authorization_header"))
+def checked(check, *given):
+    """What is read of a body; a script line whose body is wrong is refused."""
+    try:
+        return check(*given)
+    except Fault:
+        raise Refused from None
 
 
 def want(text):
-    given = body(text)
-    has_kind(given, lambda value: isinstance(value, dict))
-    wanted = {}
-    if "delivery" in given:
-        wanted["delivery"] = delivery(given["delivery"])
-    if "description" in given:
-        has_kind(given["description"], is_text)
-        wanted["description"] = given["description"]
-    if "events_requested" in given:
-        has_kind(given["events_requested"], is_texts)
-        wanted["requested"] = given["events_requested"]
-    return wanted
+    # there is no gateway, so no endpoint is `https`
+    return checked(streams.check_want, body(text), False)
 
 
 def subject(text):
-    return subject_in(body(text))
-
-
-def subject_in(value):
-    try:
-        return check_subject(value)
-    except Fault:
-        raise Refused from None
-
-
-def identifier(text):
-    """A UUID in one of its four spellings (RFC 9562, section 4)."""
-    hyphenated = "[0-9A-Fa-f]{8}-[0-9A-Fa-f]{4}-[0-9A-Fa-f]{4}-[0-9A-Fa-f]{4}-[0-9A-Fa-f]{12}"
-    if not is_text(text) or not re.fullmatch(f"[0-9A-Fa-f]{{32}}|{hyphenated}|urn:uuid:{hyphenated}|\\{{{hyphenated}\\}}", text):
-        raise Refused
-    return str(uuid.UUID(text))
+    return checked(check_subject, body(text))
 
 
 def publication(text):
-    given = body(text)
-    has_kind(given, lambda value: isinstance(value, dict))
-    named, whom = identifier(given.get("publish_id")), subject_in(given.get("sub_id"))
-    events = given.get("events")
-    has_kind(events, lambda value: isinstance(value, dict) and len(value) == 1)
-    uri, payload = next(iter(events.items()))
-    if uri not in PUBLISHED:
-        raise Refused
-    try:
-        return named, whom, uri, check_event(uri, payload, whom)
-    except Fault:
-        raise Refused from None
+    given = checked(streams.check_publication, body(text))
+    return given["id"], given["sub_id"], given["uri"], given["payload"]
 
 
 FORMS = {
@@ -251,7 +188,7 @@ class World:
         made = f"{whose}-{self.made[whose]}"
         self.streams[made] = {
             "client": whose, "number": self.made[whose], "status": "enabled", "removed": [], "asked": None, "tokens": 0,
-            "delivery": (POLL,), "requested": None, "description": None, **wanted,
+            "delivery": BY_POLL, "requested": None, "description": None, **wanted,
         }
         return [f"made {made}"]
 
@@ -263,7 +200,7 @@ class World:
         return [f"conf {held}"]
 
     def put(self, whose, held, wanted):
-        return self.patch(whose, held, {"delivery": (POLL,), "requested": None, "description": None, **wanted})
+        return self.patch(whose, held, {"delivery": BY_POLL, "requested": None, "description": None, **wanted})
 
     def delete(self, whose, held):
         if not self.of_client(whose, held):
@@ -314,7 +251,7 @@ class World:
 
     def poll(self, whose, held, most):
         found = self.of_client(whose, held)
-        if not found or found["delivery"][0] == PUSH:
+        if not found or found["delivery"]["method"] == "push":
             return ["not-found"]
         offered, size = self.offered(held), min(most, PAGE)
         page = offered[:size]
@@ -362,7 +299,7 @@ class World:
 
     def hand(self, held):
         found = self.streams.get(held)
-        page = self.offered(held)[:PAGE] if found and found["delivery"][0] == PUSH else []
+        page = self.offered(held)[:PAGE] if found and found["delivery"]["method"] == "push" else []
         return [f"handed {len(page)}"] + self.hand_out(page)
 
     def deliver(self, place):

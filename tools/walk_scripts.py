@@ -6,8 +6,9 @@ import json
 import random
 
 import replay_model
+from cases.streams import PUSH as BY_PUSH
 
-PUSH = {"method": replay_model.PUSH, "endpoint_url": "http://rx.example/push"}
+PUSH = {"method": BY_PUSH, "endpoint_url": "http://rx.example/push"}
 EVENTS = [
     ("caep", "session-revoked", {}),
     ("caep", "session-established", {}),
