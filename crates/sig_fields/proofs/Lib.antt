@@ -1,0 +1,4 @@
+pub mod Agreeing
+pub mod Exact
+pub mod ItemLemmas
+pub mod TextLemmas

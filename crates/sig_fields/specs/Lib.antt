@@ -1,0 +1,4 @@
+pub mod Agreeing
+pub mod Kinds
+pub mod Reading
+pub mod Whole
