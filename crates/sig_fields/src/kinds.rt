@@ -5,6 +5,7 @@ ghost use Rattle.sig_fields.specs.Reading.{Takes};
 use crate::{Field, PartFault, Reading};
 use sig_json::{Bytes, Items, Memory, Text};
 use std::alloc::Global;
+use std::marker::PhantomData;
 
 // So many counts can be spelled.
 const COUNTS: usize = 4_294_967_296;
@@ -35,13 +36,37 @@ pub fn put_sized(out: &mut Vec<u8>, bytes: &[u8]) -> Result<(), Memory>
     Ok(())
 }
 
-impl Field for Text {
+/// A number, in eight bytes.
+pub struct NumberField;
+
+impl Field for NumberField {
+    type Value = u64;
+
+    ghost spelled = { kinds.number_bytes };
+
+    ghost read = { kinds.number };
+
+    fn put(_alloc: Global, value: &u64, out: &mut Vec<u8>) -> Result<(), Memory> {
+        put_number(out, *value)
+    }
+
+    fn take(_alloc: Global, bytes: &mut Reading<'_>) -> Result<u64, PartFault> {
+        bytes.take_number()
+    }
+}
+
+/// A text, as a count and so many bytes of UTF-8.
+pub struct TextField;
+
+impl Field for TextField {
+    type Value = Text;
+
     ghost spelled = { kinds.text_bytes };
 
     ghost read = { kinds.text };
 
-    fn put(&self, _alloc: Global, out: &mut Vec<u8>) -> Result<(), Memory> {
-        put_sized(out, self.as_str().as_bytes())
+    fn put(_alloc: Global, value: &Text, out: &mut Vec<u8>) -> Result<(), Memory> {
+        put_sized(out, value.as_str().as_bytes())
     }
 
     fn take(alloc: Global, bytes: &mut Reading<'_>) -> Result<Text, PartFault> {
@@ -50,13 +75,18 @@ impl Field for Text {
     }
 }
 
-impl Field for Bytes {
+/// Bytes, as a count and so many.
+pub struct BytesField;
+
+impl Field for BytesField {
+    type Value = Bytes;
+
     ghost spelled = { kinds.text_bytes };
 
     ghost read = { kinds.sized };
 
-    fn put(&self, _alloc: Global, out: &mut Vec<u8>) -> Result<(), Memory> {
-        put_sized(out, self.as_slice())
+    fn put(_alloc: Global, value: &Bytes, out: &mut Vec<u8>) -> Result<(), Memory> {
+        put_sized(out, value.as_slice())
     }
 
     fn take(alloc: Global, bytes: &mut Reading<'_>) -> Result<Bytes, PartFault> {
@@ -65,13 +95,18 @@ impl Field for Bytes {
     }
 }
 
-impl Field for bool {
+/// Yes or no, as 01 or 00.
+pub struct FlagField;
+
+impl Field for FlagField {
+    type Value = bool;
+
     ghost spelled = { kinds.flag_bytes };
 
     ghost read = { kinds.flag };
 
-    fn put(&self, _alloc: Global, out: &mut Vec<u8>) -> Result<(), Memory> {
-        out.push(if *self { 1 } else { 0 })?;
+    fn put(_alloc: Global, value: &bool, out: &mut Vec<u8>) -> Result<(), Memory> {
+        out.push(if *value { 1 } else { 0 })?;
         Ok(())
     }
 
@@ -92,58 +127,72 @@ fn flag_in(byte: u8) -> Option<bool>
     }
 }
 
-impl<T: Field> Field for Option<T> {
-    ghost spelled = { kinds.maybe_bytes T.spelled };
+/// What may be there: a flag and, after 01, the field.
+pub struct Maybe<F> {
+    field: PhantomData<F>,
+}
 
-    ghost read = { kinds.maybe T.read };
+impl<F: Field> Field for Maybe<F> {
+    type Value = Option<F::Value>;
 
-    fn put(&self, alloc: Global, out: &mut Vec<u8>) -> Result<(), Memory> {
-        self.is_some().put(alloc, out)?;
-        match self {
-            Some(value) => value.put(alloc, out),
+    ghost spelled = { kinds.maybe_bytes F.spelled };
+
+    ghost read = { kinds.maybe F.read };
+
+    fn put(alloc: Global, value: &Option<F::Value>, out: &mut Vec<u8>) -> Result<(), Memory> {
+        FlagField::put(alloc, &value.is_some(), out)?;
+        match value {
+            Some(value) => F::put(alloc, value, out),
             None => Ok(()),
         }
     }
 
-    fn take(alloc: Global, bytes: &mut Reading<'_>) -> Result<Option<T>, PartFault> {
-        if bool::take(alloc, bytes)? {
-            return Ok(Some(T::take(alloc, bytes)?));
+    fn take(alloc: Global, bytes: &mut Reading<'_>) -> Result<Option<F::Value>, PartFault> {
+        if FlagField::take(alloc, bytes)? {
+            return Ok(Some(F::take(alloc, bytes)?));
         }
         Ok(None)
     }
 }
 
-impl<T: Field> Field for Items<T> {
-    ghost spelled = { kinds.list_bytes T.spelled };
+/// A list, as a count and so many fields.
+pub struct ListOf<F> {
+    field: PhantomData<F>,
+}
 
-    ghost read = { kinds.list T.read };
+impl<F: Field> Field for ListOf<F> {
+    type Value = Items<F::Value>;
 
-    fn put(&self, alloc: Global, out: &mut Vec<u8>) -> Result<(), Memory> {
-        let items = self.as_slice();
+    ghost spelled = { kinds.list_bytes F.spelled };
+
+    ghost read = { kinds.list F.read };
+
+    fn put(alloc: Global, value: &Items<F::Value>, out: &mut Vec<u8>) -> Result<(), Memory> {
+        let items = value.as_slice();
         put_count(out, items.len())?;
         for item in items {
-            item.put(alloc, out)?;
+            F::put(alloc, item, out)?;
         }
         Ok(())
     }
 
-    fn take(alloc: Global, bytes: &mut Reading<'_>) -> Result<Items<T>, PartFault> {
+    fn take(alloc: Global, bytes: &mut Reading<'_>) -> Result<Items<F::Value>, PartFault> {
         let count = bytes.take_count()?;
-        take_items(alloc, bytes, count)
+        take_items::<F>(alloc, bytes, count)
     }
 }
 
 // So many items.
-fn take_items<T: Field>(
+fn take_items<F: Field>(
     alloc: Global,
     bytes: &mut Reading<'_>,
     count: u32,
-) -> Result<Items<T>, PartFault>
-    ensures { Takes (kinds.items T.read count bytes.old) result bytes.new }
+) -> Result<Items<F::Value>, PartFault>
+    ensures { Takes (kinds.items F.read count bytes.old) result bytes.new }
 {
     let mut items = Vec::new(alloc);
     for _ in 0..count {
-        let item = T::take(alloc, bytes)?;
+        let item = F::take(alloc, bytes)?;
         items.push(item)?;
     }
     Ok(Items::of(items))

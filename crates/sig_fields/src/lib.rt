@@ -2,7 +2,8 @@
 //!
 //! It stands on `sig_json`. Numbers are big-endian. A number has eight bytes and a count four; a text is a count and so
 //! many bytes of UTF-8; a flag is 00 or 01; what may be there is a flag and, after 01, its own spelling; a list is a count
-//! and its items. A record is a `Field` of fields.
+//! and its items. A `Field` names a kind, and a
+//! record is one whose value has fields.
 //!
 //! Promised: `put` adds the spelling and nothing else; `take` reads exactly what its reader reads, and stops at the first
 //! byte of the first part that is cut or breaks its rule; `read_whole` refuses with that offset. A number, a text and a
@@ -22,6 +23,8 @@ mod whole;
 
 pub use fault::{DecodeFault, PartFault};
 pub use field::Field;
-pub use kinds::{put_count, put_number, put_sized};
+pub use kinds::{
+    BytesField, FlagField, ListOf, Maybe, NumberField, TextField, put_count, put_number, put_sized,
+};
 pub use reading::Reading;
 pub use whole::{read_whole, spell};

@@ -1,6 +1,9 @@
 //! Each kind of field once, with bytes by hand; and what refuses bytes, with its offset.
 
-use crate::{DecodeFault, Field, Reading, put_number, read_whole, spell};
+use crate::{
+    BytesField, DecodeFault, FlagField, ListOf, Maybe, NumberField, Reading, TextField, read_whole,
+    spell,
+};
 use sig_json::{Bytes, Items, Memory, Text};
 use std::alloc::Global;
 use std::test::Fail;
@@ -17,9 +20,9 @@ const TWO_TEXTS: [u8; 15] = [1, 0, 0, 0, 2, 0, 0, 0, 2, b'a', b'b', 0, 0, 0, 0];
 #[test]
 fn a_list_that_may_be_there_is_spelled_and_read(rt: HostRuntime) -> Result<(), Fail> {
     let texts = Some(two_texts(rt.alloc())?);
-    let bytes = spell(rt.alloc(), &texts)?;
+    let bytes = spell::<Maybe<ListOf<TextField>>>(rt.alloc(), &texts)?;
     assert!(rt; bytes.as_slice() == TWO_TEXTS.as_slice());
-    let read = read_whole::<Option<Items<Text>>>(rt.alloc(), bytes.as_slice())?;
+    let read = read_whole::<Maybe<ListOf<TextField>>>(rt.alloc(), bytes.as_slice())?;
     assert!(rt; read == texts);
     Ok(())
 }
@@ -27,17 +30,16 @@ fn a_list_that_may_be_there_is_spelled_and_read(rt: HostRuntime) -> Result<(), F
 #[test]
 fn bytes_are_spelled_and_read(rt: HostRuntime) -> Result<(), Fail> {
     let bytes = Bytes::of(rt.alloc(), &[255, 0])?;
-    let spelling = spell(rt.alloc(), &bytes)?;
+    let spelling = spell::<BytesField>(rt.alloc(), &bytes)?;
     assert!(rt; spelling.as_slice() == [0, 0, 0, 2, 255, 0].as_slice());
-    let read = read_whole::<Bytes>(rt.alloc(), spelling.as_slice())?;
+    let read = read_whole::<BytesField>(rt.alloc(), spelling.as_slice())?;
     assert!(rt; read == bytes);
     Ok(())
 }
 
 #[test]
 fn a_number_is_spelled_and_read_up_to_a_bound(rt: HostRuntime) -> Result<(), Fail> {
-    let mut out = Vec::new(rt.alloc());
-    put_number(&mut out, 258)?;
+    let out = spell::<NumberField>(rt.alloc(), &258)?;
     assert!(rt; out.as_slice() == [0, 0, 0, 0, 0, 0, 1, 2].as_slice());
     let mut bytes = Reading::new(out.as_slice());
     assert!(rt; bytes.take_up_to(257).is_err());
@@ -48,11 +50,11 @@ fn a_number_is_spelled_and_read_up_to_a_bound(rt: HostRuntime) -> Result<(), Fai
 
 #[test]
 fn the_first_part_that_cannot_be_read_is_named(rt: HostRuntime) -> Result<(), Fail> {
-    let cut = read_whole::<Option<Text>>(rt.alloc(), &[1, 0, 0, 0, 2, b'a']);
+    let cut = read_whole::<Maybe<TextField>>(rt.alloc(), &[1, 0, 0, 0, 2, b'a']);
     assert!(rt; matches!(cut, Err(DecodeFault::Bad(1))));
-    let no_flag = read_whole::<bool>(rt.alloc(), &[2]);
+    let no_flag = read_whole::<FlagField>(rt.alloc(), &[2]);
     assert!(rt; matches!(no_flag, Err(DecodeFault::Bad(0))));
-    let more = read_whole::<bool>(rt.alloc(), &[1, 0]);
+    let more = read_whole::<FlagField>(rt.alloc(), &[1, 0]);
     assert!(rt; matches!(more, Err(DecodeFault::Bad(1))));
     Ok(())
 }

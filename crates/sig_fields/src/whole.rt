@@ -10,11 +10,11 @@ use std::alloc::Global;
 const SPELLING_BYTES: usize = 1_024;
 
 /// The bytes that spell a value.
-pub fn spell<T: Field>(alloc: Global, value: &T) -> Result<Bytes, Memory>
-    ensures { IfOk result (λ b. b ≡ T.spelled value.now) }
+pub fn spell<F: Field>(alloc: Global, value: &F::Value) -> Result<Bytes, Memory>
+    ensures { IfOk result (λ b. b ≡ F.spelled value.now) }
 {
     let mut out = Vec::with_capacity(alloc, SPELLING_BYTES)?;
-    value.put(alloc, &mut out)?;
+    F::put(alloc, value, &mut out)?;
     Ok(Bytes::from_vec(out))
 }
 
@@ -22,11 +22,11 @@ pub fn spell<T: Field>(alloc: Global, value: &T) -> Result<Bytes, Memory>
 ///
 /// `Bad` comes exactly where they spell none, with the offset of the first part that is cut or breaks its rule; where
 /// there is none, with that of the first byte after the last part.
-pub fn read_whole<T: Field>(alloc: Global, bytes: &[u8]) -> Result<T, DecodeFault>
-    ensures { Answers DecodeFault.Memory result (whole T.read bytes.now) }
+pub fn read_whole<F: Field>(alloc: Global, bytes: &[u8]) -> Result<F::Value, DecodeFault>
+    ensures { Answers DecodeFault.Memory result (whole F.read bytes.now) }
 {
     let mut reading = Reading::new(bytes);
-    match T::take(alloc, &mut reading) {
+    match F::take(alloc, &mut reading) {
         Ok(value) => match reading.rest() {
             [] => Ok(value),
             rest => Err(DecodeFault::Bad(offset_of(bytes, rest))),

@@ -4,4 +4,4 @@ use Rattle.sig_fields.proofs.ItemLemmas.{joined}
 use Rattle.sig_fields.proofs.kinds.take_items.Given as goal
 
 abbrev pub invariant-loop : goal.invariant-loop
-invariant-loop g l = items g.T.Field.read l.count l.initial.bytes ≡ joined l.items.items (items g.T.Field.read (l.count - l.counter) l.bytes)
+invariant-loop g l = items g.F.Field.read l.count l.initial.bytes ≡ joined l.items.items (items g.F.Field.read (l.count - l.counter) l.bytes)
