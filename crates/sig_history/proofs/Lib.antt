@@ -10,3 +10,5 @@ pub mod StreamNews
 pub mod KeptLemmas
 pub mod NameLemmas
 pub mod OwedStepLemmas
+pub mod ChangeLemmas
+pub mod OthersLemmas

@@ -1,5 +1,5 @@
 -- What a receiver sets of a stream stays within the limits, whatever fact follows that fits.
-use Rattle.std.proofs.Common.{◌≡◌, ◌++◌, ap, ℕ, List, Bool, true, false, ◌&&◌, Option, Some, None, if◌then◌else◌, refl}
+use Rattle.std.proofs.Common.{◌≡◌, ℕ, List, true, false, Option, Some, None, if◌then◌else◌}
 use Rattle.std.specs.Prelude.{⊤}
 use Rattle.std.proofs.lemmas.Bool.{and_parts}
 use Rattle.sig_event.specs.declared.news.News.{News}

@@ -6,4 +6,5 @@ pub mod Sound
 pub mod Whole
 pub mod Standings
 pub mod Ours
+pub mod Changes
 pub mod Laws

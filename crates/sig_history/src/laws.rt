@@ -1,5 +1,6 @@
 //! Laws over the definitions: each function's contract is the law, and nothing calls it.
 
+ghost use Rattle.sig_history.specs.Changes.{ConfiguringSetsWhatItSays, FactsLeaveOthers, ListingDecidesWhatIsDue, ListingPutsOn, StatusDecidesWhatIsOffered, StatusIsSet, UnlistingTakesOff};
 ghost use Rattle.sig_history.specs.Laws.{AskingAddsAVerification, DeletingLeavesNothing, DisablingLeavesItsOwnNotice, HistoriesJoin, NamesAreUsedOnce, OwedNumbersRise, OwesWhatIsLeft, PausingKeepsWhatIsOwed, PublishingAddsWhereDue, SettlingTakesOffTheNamed, SoundHistoriesAreWhole, SoundHistoriesJoin, StreamsAreSorted};
 
 /// A history may be taken up where an earlier part of it ended: the sum of both parts is that of the second over that of
@@ -74,4 +75,46 @@ pub fn disabling_leaves_its_own_notice()
 /// The name of a stream that was deleted stands no more and owes nothing (Shared Signals Framework 1.0, section 8.1.1).
 pub fn deleting_leaves_nothing()
     ensures { DeletingLeavesNothing }
+{}
+
+/// A fact that names a stream leaves every other stream, and what it owes, as they were (Shared Signals Framework 1.0,
+/// section 8.1).
+pub fn facts_leave_other_streams()
+    ensures { FactsLeaveOthers }
+{}
+
+/// A stream that is configured has the requested list, the delivery and the description that the fact says, and all else of it
+/// is as before (Shared Signals Framework 1.0, sections 8.1.1.3 and 8.1.1.4).
+pub fn configuring_sets_what_it_says()
+    ensures { ConfiguringSetsWhatItSays }
+{}
+
+/// A stream whose status is set has that status and that reason, and all else of it is as before, but that the operator's makes
+/// one token more (Shared Signals Framework 1.0, sections 8.1.2 and 8.1.5).
+pub fn status_is_set()
+    ensures { StatusIsSet }
+{}
+
+/// A subject that is listed was on the list, which then stays, or stands last on it afterwards (Shared Signals Framework 1.0,
+/// section 8.1.3).
+pub fn listing_puts_on()
+    ensures { ListingPutsOn }
+{}
+
+/// A subject that is unlisted isn't on the list, and every other is where it was (Shared Signals Framework 1.0, section 8.1.3).
+pub fn unlisting_takes_off()
+    ensures { UnlistingTakesOff }
+{}
+
+/// On a stream that isn't disabled and delivers the event, a publication is due on a subject that was listed where no subject
+/// is one of the stream's by default; where all are, it is due on one that was unlisted, and not on one that was listed
+/// (Shared Signals Framework 1.0, sections 7.1 and 8.1.3).
+pub fn listing_decides_what_is_due()
+    ensures { ListingDecidesWhatIsDue }
+{}
+
+/// An enabled stream offers all that it owes, and a paused or disabled one the tokens alone that tell that its status changed
+/// (Shared Signals Framework 1.0, sections 8.1.2 and 8.1.5).
+pub fn status_decides_what_is_offered()
+    ensures { StatusDecidesWhatIsOffered }
 {}
