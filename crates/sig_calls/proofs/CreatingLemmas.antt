@@ -24,6 +24,7 @@ use Rattle.sig_calls.specs.Proper.{IsProperRules, is_proper_client}
 use Rattle.sig_calls.specs.Regular.{IsOwedAfter}
 use Rattle.sig_calls.specs.Told.{only}
 use Rattle.sig_history.proofs.StreamLemmas.{same_text, text_itself}
+use Rattle.sig_calls.proofs.SizeLemmas.{created_small}
 use Rattle.sig_calls.proofs.SilentLemmas.{none_made, nothing_may_be_made}
 use Rattle.sig_calls.proofs.ToldLemmas.{IsLawful, only_lawful}
 
@@ -117,8 +118,8 @@ next_lawful rules sum name want now c proper few =
     record {
       exact = stream_exact rules sum.parts want now c both.0;
       regular = λ whole. record {
-        fits = λ low. and_from (may_be_made (made_by sum.parts made)) (is_apt sum made) (nothing_may_be_made sum.parts made (λ s. refl))
-            (next_may_be sum.parts c.name both.0 few low);
+        fits = λ ok low. and_from (may_be_made (made_by sum.parts made)) (is_apt sum made) (nothing_may_be_made sum.parts made (λ s. refl))
+            (and_from _ _ (next_may_be sum.parts c.name both.0 few low) (created_small want ok));
         ours = λ ok early. (refl, texts_utf8 c.aud both.1);
         hands = All-nil (IsOwedAfter sum (Some made));
         acked = λ m there no. cc no;

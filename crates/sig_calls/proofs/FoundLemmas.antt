@@ -32,13 +32,19 @@ told_lawful : (rules : Rules) (sum : Sum) (call : Call) (now : ℕ) (tell : Stre
 told_lawful rules sum call now tell None each = only_lawful rules sum call now answer.NotFound refl
 told_lawful rules sum call now tell (Some s) each = each s refl
 
+-- what is told of each stream that may be found is told of a client's stream
+pub found_lawful : (rules : Rules) (sum : Sum) (call : Call) (now : ℕ) (client name : List ℕ) (tell : Stream → Told)
+    → ((s : Stream) → client_stream client name sum.parts.streams ≡ Some s → IsLawful rules sum call now (tell s))
+    → IsLawful rules sum call now (told_by tell (client_stream client name sum.parts.streams))
+found_lawful rules sum call now client name tell each =
+    told_lawful rules sum call now tell (client_stream client name sum.parts.streams) each
+
 -- what is told of each stream of the name, where it stands, is told of a client's stream
 pub client_lawful : (rules : Rules) (sum : Sum) (call : Call) (now : ℕ) (client name : List ℕ) (tell : Stream → Told)
     → ((s : Stream) → stands name sum.parts.streams ≡ true → IsLawful rules sum call now (tell s))
     → IsLawful rules sum call now (told_by tell (client_stream client name sum.parts.streams))
 client_lawful rules sum call now client name tell each =
-    told_lawful rules sum call now tell (client_stream client name sum.parts.streams)
-    (λ s is. each s (client_stands client name sum.parts.streams s is))
+    found_lawful rules sum call now client name tell (λ s is. each s (client_stands client name sum.parts.streams s is))
 
 -- and of a stream that the operator names
 pub named_lawful : (rules : Rules) (sum : Sum) (call : Call) (now : ℕ) (name : List ℕ) (tell : Stream → Told)

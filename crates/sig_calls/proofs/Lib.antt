@@ -1,6 +1,7 @@
 pub mod SilentLemmas
 pub mod ToldLemmas
 pub mod FoundLemmas
+pub mod SizeLemmas
 pub mod OwedLemmas
 pub mod ChangedLemmas
 pub mod OfferedLemmas
@@ -17,3 +18,5 @@ pub mod SettlingLemmas
 pub mod RegularLemmas
 pub mod NumberLemmas
 pub mod ReplyLemmas
+pub mod EqualityLemmas
+pub mod SpeakingLemmas

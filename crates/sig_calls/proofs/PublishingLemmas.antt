@@ -17,7 +17,7 @@ published_lawful : (rules : Rules) (sum : Sum) (id : List ℕ) (n : News) (now :
     → IsLawful rules sum (Publish id n) now (published_after sum.parts id n now o)
 published_lawful rules sum id n now None =
     making_lawful rules sum (Publish id n) now (answer.Published sum.parts.store_id (map issued_of (made_by sum.parts (Published id n now)))) (Published id n now) refl
-    (record { brings = refl; apt = refl; ours = λ proper early. (proper, early); quiet = λ m. refl })
+    (record { brings = refl; apt = λ whole proper. refl; ours = λ proper early. (proper, early); quiet = λ m. refl })
 published_lawful rules sum id n now (Some p) =
     elim (is_same_news p.news n) as (λ b. IsLawful rules sum (Publish id n) now
     (if b then only (answer.Published sum.parts.store_id p.issued) else only answer.Conflict)) [

@@ -8,7 +8,7 @@ use Rattle.sig_terms.specs.Reply.{Reply}
 use Rattle.sig_history.specs.Owed.{Sum}
 use Rattle.sig_history.specs.Sound.{Fits}
 use Rattle.sig_history.specs.Whole.{IsWhole}
-use Rattle.sig_calls.specs.Proper.{IsProperRules}
+use Rattle.sig_calls.specs.Proper.{IsProperCall, IsProperRules}
 use Rattle.sig_calls.specs.Regular.{IsRegular}
 use Rattle.sig_calls.specs.Table.{prepared_of, told_of}
 use Rattle.sig_calls.specs.Told.{Told, outcome}
@@ -38,10 +38,10 @@ reply_of t r is =
     let both = reply_by t.over (reply_with t) r is in
     record { low = both.0; reply = both.1 }
 
--- the fact of a reply fits
-pub reply_fits : (rules : Rules) (sum : Sum) (call : Call) (now : ℕ) (r : Reply) → IsProperRules rules → IsWhole sum
+-- the fact of a reply to a proper call fits
+pub reply_fits : (rules : Rules) (sum : Sum) (call : Call) (now : ℕ) (r : Reply) → IsProperRules rules → IsProperCall call → IsWhole sum
     → prepared_of rules sum call now ≡ Ok r → IfSome r.change (Fits sum)
-reply_fits rules sum call now r proper whole is =
+reply_fits rules sum call now r proper called whole is =
     let of : IsReplyOf (told_of rules sum call now) r = reply_of (told_of rules sum call now) r is in
     let regular : IsRegular rules sum call now (told_of rules sum call now) = calls_regular rules sum call now proper whole in
-    subst (λ (s : Reply). IfSome s.change (Fits sum)) of.reply (regular.fits of.low)
+    subst (λ (s : Reply). IfSome s.change (Fits sum)) of.reply (regular.fits called of.low)

@@ -71,5 +71,5 @@ settled_lawful rules sum call now a stream items each = record {
   exact = settled_stays sum.parts stream items;
   regular = λ whole.
       let is : IsSettlement sum call a (settled_fact stream items) = each whole in
-      record { fits = λ low. is.fits; ours = λ proper early. settled_ours rules.issuer stream items; hands = is.hands; acked = is.acked };
+      record { fits = λ proper low. is.fits; ours = λ proper early. settled_ours rules.issuer stream items; hands = is.hands; acked = is.acked };
 }

@@ -28,7 +28,7 @@ setting_status_lawful rules sum client stream status reason now =
       | true ↦ only_lawful rules sum (SetStatus client stream status reason) now (state_of stream s) refl
       | false ↦ change_lawful rules sum (SetStatus client stream status reason) now (answer.State stream status reason None)
           (StatusSet stream status reason false now) refl (λ t. refl)
-          (record { brings = refl; apt = here; ours = λ proper early. (proper, early); quiet = λ m. refl })
+          (record { brings = refl; apt = λ whole proper. here; ours = λ proper early. (proper, early); quiet = λ m. refl })
     ])
 
 pub operating_lawful : (rules : Rules) (sum : Sum) (stream : List ℕ) (status : Status) (reason : Option (List ℕ)) (now : ℕ)
@@ -40,5 +40,5 @@ operating_lawful rules sum stream status reason now =
       | true ↦ only_lawful rules sum (OperatorStatus stream status reason) now (state_of stream s) refl
       | false ↦ making_lawful rules sum (OperatorStatus stream status reason) now (answer.State stream status reason (Some (s.made + 1)))
           (StatusSet stream status reason true now) refl
-          (record { brings = refl; apt = here; ours = λ proper early. (proper, early); quiet = λ m. refl })
+          (record { brings = refl; apt = λ whole proper. here; ours = λ proper early. (proper, early); quiet = λ m. refl })
     ])

@@ -20,14 +20,14 @@ listed_may : (rules : Rules) (sum : Sum) (call : Call) (now : ℕ) (stream : Lis
 listed_may rules sum call now stream subject s here =
     elim (is_listed subject s) as (λ b. IfSome (if b then None else Some (Listed stream subject)) (MayChange rules sum call now)) [
       | true ↦ tt
-      | false ↦ record { silent = λ t. refl; may = record { brings = refl; apt = here; ours = λ proper early. tt; quiet = λ m. refl } }
+      | false ↦ record { silent = λ t. refl; may = record { brings = refl; apt = λ whole proper. here; ours = λ proper early. tt; quiet = λ m. refl } }
     ]
 
 unlisted_may : (rules : Rules) (sum : Sum) (call : Call) (now : ℕ) (stream : List ℕ) (subject : Subject) (s : Stream) → stands stream sum.parts.streams ≡ true
     → IfSome (unlisted_change stream subject s) (MayChange rules sum call now)
 unlisted_may rules sum call now stream subject s here =
     elim (is_listed subject s) as (λ b. IfSome (if b then Some (Unlisted stream subject) else None) (MayChange rules sum call now)) [
-      | true ↦ record { silent = λ t. refl; may = record { brings = refl; apt = here; ours = λ proper early. tt; quiet = λ m. refl } }
+      | true ↦ record { silent = λ t. refl; may = record { brings = refl; apt = λ whole proper. here; ours = λ proper early. tt; quiet = λ m. refl } }
       | false ↦ tt
     ]
 

@@ -34,7 +34,7 @@ pub answer_lawful : (rules : Rules) (sum : Sum) (call : Call) (now : ℕ) (a : A
     → IsLawful rules sum call now (only a)
 answer_lawful rules sum call now a hands = record {
   exact = refl;
-  regular = λ whole. record { fits = λ low. tt; ours = λ proper early. tt; hands = hands whole; acked = tt };
+  regular = λ whole. record { fits = λ proper low. tt; ours = λ proper early. tt; hands = hands whole; acked = tt };
 }
 
 -- an answer that hands out nothing hands out what is owed
@@ -49,7 +49,7 @@ only_lawful rules sum call now a none = answer_lawful rules sum call now a (λ w
 -- a fact that a call may make: it brings no stream, it is apt, it is as the rules have it, and it acknowledges nothing
 pub record MayFollow (rules : Rules) (sum : Sum) (call : Call) (now : ℕ) (f : Fact) : Type 0 where
   pub brings : brought_by sum.parts f ≡ None
-  pub apt : is_apt sum f ≡ true
+  pub apt : IsWhole sum → IsProperCall call → is_apt sum f ≡ true
   pub ours : IsProperCall call → now ≤ LAST_NUMBER → IsOurFact rules.issuer f
   pub quiet : (m : Made) → acknowledges f m ≡ false
 
@@ -62,7 +62,7 @@ pub change_lawful : (rules : Rules) (sum : Sum) (call : Call) (now : ℕ) (a : A
 change_lawful rules sum call now a f none silent may = record {
   exact = sym (ap (list_any is_past) (none_made sum.parts f silent)) ∙ fact_exact rules sum call now f may;
   regular = λ whole. record {
-    fits = λ low. and_from _ _ (nothing_may_be_made sum.parts f silent) may.apt;
+    fits = λ proper low. and_from _ _ (nothing_may_be_made sum.parts f silent) (may.apt whole proper);
     ours = may.ours;
     hands = none_handed sum (Some f) a none;
     acked = λ m there counts. absurd (true≢false (sym counts ∙ may.quiet m));
@@ -91,7 +91,7 @@ making_lawful rules sum call now a f none may =
       | false ↦ λ short. record {
         exact = fact_exact rules sum call now f may;
         regular = λ whole. record {
-          fits = λ low. and_from _ _ (and_from _ _ (not_from_false _ low) (not_from_false _ short)) may.apt;
+          fits = λ proper low. and_from _ _ (and_from _ _ (not_from_false _ low) (not_from_false _ short)) (may.apt whole proper);
           ours = may.ours;
           hands = none_handed sum (Some f) a none;
           acked = λ m there counts. absurd (true≢false (sym counts ∙ may.quiet m));

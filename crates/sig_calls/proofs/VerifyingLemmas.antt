@@ -16,7 +16,7 @@ made_lawful : (rules : Rules) (sum : Sum) (client stream : List ℕ) (state : Op
     → IsLawful rules sum (Verify client stream state) now (making sum.parts (answer.Asked stream number) (Asked stream state now))
 made_lawful rules sum client stream state now number here =
     making_lawful rules sum (Verify client stream state) now (answer.Asked stream number) (Asked stream state now) refl
-    (record { brings = refl; apt = here; ours = λ proper early. (proper, early); quiet = λ m. refl })
+    (record { brings = refl; apt = λ whole proper. here; ours = λ proper early. (proper, early); quiet = λ m. refl })
 
 after_lawful : (rules : Rules) (sum : Sum) (client stream : List ℕ) (state : Option (List ℕ)) (now : ℕ) (s : Stream) (asked : Option ℕ)
     → stands stream sum.parts.streams ≡ true → IsLawful rules sum (Verify client stream state) now (asked_after sum.parts stream state now s asked)

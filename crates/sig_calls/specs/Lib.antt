@@ -14,3 +14,4 @@ pub mod Table
 pub mod Proper
 pub mod Regular
 pub mod Laws
+pub mod Speaking

@@ -1,5 +1,5 @@
--- What every call keeps to: its fact fits and is as the rules have it, it hands out what is owed, and it acknowledges what it
--- names.
+-- What every call keeps to: its fact fits where the call is proper and is as the rules have it, it hands out what is owed, and
+-- it acknowledges what it names.
 use Rattle.std.specs.Prelude.{◌≡◌, ◌≤◌, ◌==◌, ◌&&◌, ℕ, List, [], Bool, true, false, Option, is_none, bytes_eq, All, Contains, IfSome}
 use Rattle.std.specs.List.{list_any}
 use Rattle.std.specs.Option.{option_to_list}
@@ -91,7 +91,7 @@ abbrev pub IsOwedAfter : Sum → Option Fact → Token → Type 0
 IsOwedAfter sum change m = Contains (owed_by (sum_of sum (option_to_list change)) m.stream) (made_in m)
 
 pub record IsRegular (rules : Rules) (sum : Sum) (call : Call) (now : ℕ) (t : Told) : Type 0 where
-  pub fits : t.over ≡ false → IfSome t.change (Fits sum)
+  pub fits : IsProperCall call → t.over ≡ false → IfSome t.change (Fits sum)
   pub ours : IsProperCall call → now ≤ LAST_NUMBER → IfSome t.change (IsOurFact rules.issuer)
   pub hands : All (IsOwedAfter sum t.change) (handed_by t.answer)
   pub acked : IfSome t.change (λ f. (m : Made) → Contains (owed_by sum m.stream) m → acknowledges f m ≡ true → acks call m ≡ true)
