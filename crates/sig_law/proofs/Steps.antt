@@ -65,7 +65,7 @@ call_kept ends world call proper holds fair truthful low =
     let keeps : IsRegular ends.rules (sum_in ends world) call world.time (told_of ends.rules (sum_in ends world) call world.time) =
     calls_regular ends.rules (sum_in ends world) call world.time proper.rules holds.kept.whole in
     let change : Option Fact = change_of ends.rules (sum_in ends world) call world.time in
-    let fits : IfSome change (Fits (sum_in ends world)) = keeps.fits low in
+    let fits : IfSome change (Fits (sum_in ends world)) = keeps.fits fair low in
     facts_hold ends world change (issuer_text ends.rules proper.rules) holds fits (keeps.ours fair holds.early)
     (both_there change
     (λ f fit acked. fact_counted ends.rules.issuer ends.store_id (sum_in ends world) world.journal call f (owes_its_own ends world holds)
