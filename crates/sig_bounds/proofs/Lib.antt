@@ -1,0 +1,3 @@
+pub mod TokenSizes
+pub mod DataSizes
+pub mod WantSizes
