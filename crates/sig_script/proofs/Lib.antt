@@ -1,3 +1,4 @@
 mod NumberLemmas
 mod TextLemmas
-mod ProperLines
+mod CutLemmas
+pub mod ProperLines

@@ -1,5 +1,5 @@
 -- What the JSON says that stands to the end of a line.
-use Rattle.std.specs.Prelude.{ℕ, List, [], ◌∷◌, Bool, false, Option, Some, option_and_then, option_map}
+use Rattle.std.specs.Prelude.{ℕ, List, false, Option, option_and_then}
 use Rattle.std.specs.Result.{result_ok}
 use Rattle.serde_json.specs.Data.{Data}
 use Rattle.sig_json.specs.Json.{json_of}

@@ -7,4 +7,5 @@ pub fn lines_are_proper()
     ensures { LinesAreProper }
 {
     sig_stream::laws::read_publications_are_proper();
+    sig_bounds::laws::wants_are_proper();
 }
