@@ -9,7 +9,7 @@ ghost use Rattle.sig_guard.specs.Guard.{answer_to, pairs_after, rows_after};
 use sig_inbox::{Found, Pair, Seen};
 use sig_json::Text;
 use sig_sessions::Table;
-use sig_set::{Claims, PreparedTrust, Refusal, judge_prepared};
+use sig_set::{Claims, LastHeader, PreparedTrust, Refusal, judge_prepared};
 use sig_subject::Subject;
 use std::alloc::Global;
 
@@ -28,6 +28,8 @@ pub struct Guard {
     pub seen: Seen,
     /// What they made known.
     pub table: Table,
+    /// The header that was judged last.
+    pub last: LastHeader,
 }
 
 impl Guard {
@@ -43,7 +45,14 @@ impl Guard {
         ensures issuer { self.new.issuer ≡ self.old.issuer }
         ensures session { self.new.session ≡ self.old.session }
     {
-        let claims = judge_prepared(self.alloc, &self.trust, Some(&self.issuer), None, token)?;
+        let claims = judge_prepared(
+            self.alloc,
+            &self.trust,
+            &mut self.last,
+            Some(&self.issuer),
+            None,
+            token,
+        )?;
         let change = self.table.prepare(&claims)?;
         let Claims { iss, jti, .. } = claims;
         match self.seen.add(Pair { iss, jti })? {

@@ -16,7 +16,7 @@ use sig_inbox::{Found, Seen};
 use sig_json::{Bytes, Items, Memory, Text};
 use sig_jws::Key;
 use sig_sessions::Table;
-use sig_set::{Issuer, PreparedTrust, Refusal, Trust};
+use sig_set::{Issuer, LastHeader, PreparedTrust, Refusal, Trust};
 use sig_subject::{Plain, Simple, Subject};
 use std::alloc::Global;
 use std::io;
@@ -65,6 +65,7 @@ fn new_guard(alloc: Global) -> Result<Guard, Memory> {
         session: session(alloc)?,
         seen: Seen::new(alloc),
         table: Table::new(alloc),
+        last: LastHeader::none(),
     })
 }
 

@@ -6,18 +6,19 @@ use crate::{Heard, Hearing, Ready, TakeFault};
 use sig_inbox::{Pair, Seen};
 use sig_json::{Memory, Text};
 use sig_sessions::{Row, Table, Verdict};
-use sig_set::{Claims, PreparedTrust, Refusal, claims_of, judge_prepared};
+use sig_set::{Claims, LastHeader, PreparedTrust, Refusal, claims_of, judge_prepared};
 use sig_subject::Subject;
 use std::alloc::Global;
 use std::marker::Model;
 
 /// What a receiver keeps of its journal: which tokens it took, and the session table that they made. Contracts see the
-/// pairs, the rows, and for how many more there is room.
+/// pairs, the rows, and for how many more there is room. Beside these it keeps the header that was judged last.
 #[derive(Debug, Drop)]
 pub struct Receiver {
     alloc: Global,
     seen: Seen,
     table: Table,
+    last: LastHeader,
 }
 
 impl Model for Receiver {
@@ -42,6 +43,7 @@ impl Receiver {
             alloc,
             seen: Seen::new(alloc),
             table: Table::new(alloc),
+            last: LastHeader::none(),
         }
     }
 
@@ -61,7 +63,7 @@ impl Receiver {
         ensures ready { IfOk result (λ hearing. IfSome hearing.change (IsReady self.new)) }
         ensures makes { IfOk result (λ hearing. committed_if hearing.change (received self.old) ≡ received_of (received self.old) (journal_by hearing.heard [] text.now)) }
     {
-        match judge_prepared(self.alloc, trust, principal, named, text) {
+        match judge_prepared(self.alloc, trust, &mut self.last, principal, named, text) {
             Ok(claims) => self.prepare_valid(claims),
             Err(Refusal::Coded { code, spot }) => Ok(Hearing {
                 heard: Heard::NotTaken { code, spot },

@@ -4,6 +4,7 @@ pub mod Tests
 pub mod Header
 pub mod Claims
 pub mod Judgement
+pub mod Known
 pub mod Reading
 pub mod Written
 pub mod Laws

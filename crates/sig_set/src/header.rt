@@ -1,19 +1,42 @@
 //! What a token's header tells: that it is a token, and by which key it is signed.
 
-ghost use Rattle.std.specs.Prelude.{◌≡◌, Some, option_copied, option_map};
+ghost use Rattle.std.specs.Prelude.{◌≡◌, IfOk, Some, option_copied, option_map};
 ghost use Rattle.serde_json.specs.View.{view};
-ghost use Rattle.sig_set.specs.Checks.{passed};
+ghost use Rattle.sig_json.specs.Answers.{Answers};
+ghost use Rattle.sig_json.specs.Json.{json_of};
+ghost use Rattle.sig_set.specs.Checks.{outcome, passed};
 ghost use Rattle.sig_set.specs.Header as spec;
-ghost use Rattle.sig_set.specs.Judgement.{key_checks};
+ghost use Rattle.sig_set.specs.Judgement.{header_checks, key_checks};
 
 use crate::refusal::refused;
-use crate::values::has_text;
+use crate::values::{has_text, value_of};
 use crate::{Code, Refusal, Spot};
-use sig_json::{Value, text_of};
+use sig_json::{Value, present, text_of};
 use sig_jws::{Compact, Key, PreparedKey};
+use std::alloc::Global;
 
-/// Whether the header's `typ` is that of a security event token.
-pub fn has_token_type(header: &Value) -> bool
+/// The header that the bytes spell, where it is one of a token: `InvalidRequest` at the first of its checks that fails.
+pub fn header_from(alloc: Global, bytes: &[u8]) -> Result<Value, Refusal>
+    ensures checks { Answers Refusal.Memory (outcome result) (passed (header_checks (json_of bytes.now))) }
+    ensures value { IfOk result (λ value. json_of bytes.now ≡ Some (view value)) }
+{
+    let Some(header) = value_of(alloc, bytes)? else {
+        return Err(refused(Code::InvalidRequest, Spot::Header));
+    };
+    if !header.is_object() {
+        return Err(refused(Code::InvalidRequest, Spot::Header));
+    }
+    if !has_token_type(&header) {
+        return Err(refused(Code::InvalidRequest, Spot::Typ));
+    }
+    if present(&header, "crit") {
+        return Err(refused(Code::InvalidRequest, Spot::Crit));
+    }
+    Ok(header)
+}
+
+// Whether the header's `typ` is that of a security event token.
+fn has_token_type(header: &Value) -> bool
     ensures { result ≡ spec.has_token_type (Some (view header.now)) }
 {
     match text_of(header, "typ") {

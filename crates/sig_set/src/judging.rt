@@ -11,7 +11,7 @@ use crate::header::verify;
 use crate::opening::{Opened, open};
 use crate::refusal::refused;
 use crate::values::has_text;
-use crate::{Claims, Code, PreparedIssuer, PreparedTrust, Refusal, Spot, Trust};
+use crate::{Claims, Code, LastHeader, PreparedIssuer, PreparedTrust, Refusal, Spot, Trust};
 use sig_json::{Items, Text, Value, text_of};
 use sig_jws::PreparedKey;
 use std::alloc::Global;
@@ -38,7 +38,7 @@ use std::alloc::Global;
 ///    has a member (`Events`), and each, in byte order of its URI, is an event about the subject (`Event`).
 ///
 /// A `crit`, `exp` or `sub` of null is there too. Other members are passed over. `Memory` is out of memory. It prepares
-/// every key anew, so for many tokens over one trust take `judge_prepared`.
+/// every key anew and keeps no header, so for many tokens over one trust take `judge_prepared`.
 pub fn judge(
     alloc: Global,
     trust: &Trust,
@@ -49,13 +49,16 @@ pub fn judge(
     ensures { Answers Refusal.Memory result (result_of (judged trust.now (option_copied principal.entry) (option_copied named.entry) bytes.now)) }
 {
     let prepared = PreparedTrust::of(alloc, trust)?;
-    judge_prepared(alloc, &prepared, principal, named, bytes)
+    let mut last = LastHeader::none();
+    judge_prepared(alloc, &prepared, &mut last, principal, named, bytes)
 }
 
-/// The same, with the keys prepared once for many tokens over one trust.
+/// The same, with the keys prepared once for many tokens over one trust, and with the header that was the last one. A token
+/// whose header has the same bytes isn't asked again what they spell; whatever the last one was, the answer is the same.
 pub fn judge_prepared(
     alloc: Global,
     trust: &PreparedTrust,
+    last: &mut LastHeader,
     principal: Option<&Text>,
     named: Option<&Text>,
     bytes: &[u8],
@@ -65,9 +68,9 @@ pub fn judge_prepared(
     if principal.is_none() {
         return Err(refused(Code::AuthenticationFailed, Spot::Bearer));
     }
-    let opened = open(alloc, bytes)?;
+    let opened = open(alloc, last, bytes)?;
     let audience = audience(alloc, &opened.payload)?;
-    check_trust(trust, principal, &opened, &audience)?;
+    check_trust(trust, principal, last.value(), &opened, &audience)?;
     content(alloc, named, &opened.payload, audience)
 }
 
@@ -76,15 +79,16 @@ pub fn judge_prepared(
 fn check_trust(
     trust: &PreparedTrust,
     principal: Option<&Text>,
+    header: &Value,
     opened: &Opened,
     audience: &Option<Items<Text>>,
 ) -> Result<(), Refusal>
     requires { audience.now ≡ audience_in (Some (view opened.now.payload)) }
     ensures { result ≡ passed
-        (trust_checks trust.now (option_copied principal.entry) (Some opened.now.token) (Some (view opened.now.header)) (Some (view opened.now.payload))) }
+        (trust_checks trust.now (option_copied principal.entry) (Some opened.now.token) (Some (view header.now)) (Some (view opened.now.payload))) }
 {
     let keys = keys_for(trust.issuers(), principal, &opened.payload)?;
-    verify(&opened.token, &opened.header, keys)?;
+    verify(&opened.token, header, keys)?;
     if !has_name(audience, trust.audience()) {
         return Err(refused(Code::InvalidAudience, Spot::Aud));
     }

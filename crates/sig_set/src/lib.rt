@@ -9,13 +9,15 @@
 //! written of claims is that of `specs/Written`. What a valid token is stands in one record above the checks (`IsValid` of
 //! `specs/Laws`), and what is judged valid is that. What is written of proper claims is judged valid with these claims, and
 //! the claims of a token that is valid are read without its key (`laws`). A receiver prepares the keys that it trusts once for
-//! all tokens (`PreparedTrust`). Left out: forging, and the secrecy of keys.
+//! all tokens (`PreparedTrust`), and keeps what the last header spells for the next token, which mostly has the same
+//! (`LastHeader`). Left out: forging, and the secrecy of keys.
 #![tactic(auto)]
 
 mod audience;
 mod content;
 mod header;
 mod judging;
+mod last_header;
 pub mod laws;
 mod opening;
 mod prepared;
@@ -29,6 +31,7 @@ mod values;
 mod writing;
 
 pub use judging::{judge, judge_prepared};
+pub use last_header::LastHeader;
 pub use prepared::{PreparedIssuer, PreparedTrust};
 pub use reading::{ClaimsFault, claims_of};
 pub use refusal::{Code, Refusal, Spot};

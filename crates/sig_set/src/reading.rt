@@ -9,7 +9,7 @@ use crate::audience::audience;
 use crate::content::content;
 use crate::opening::open;
 use crate::refusal::refused;
-use crate::{Claims, Code, Refusal, Spot};
+use crate::{Claims, Code, LastHeader, Refusal, Spot};
 use sig_json::MemoryRefusal;
 use std::alloc::Global;
 
@@ -51,7 +51,7 @@ pub fn claims_of(alloc: Global, bytes: &[u8]) -> Result<Claims, ClaimsFault>
 fn spoken(alloc: Global, bytes: &[u8]) -> Result<Claims, Refusal>
     ensures { Answers Refusal.Memory result (unless_refused (first_failing (reading_checks bytes.now)) (claims_of bytes.now)) }
 {
-    let opened = open(alloc, bytes)?;
+    let opened = open(alloc, &mut LastHeader::none(), bytes)?;
     let audience = audience(alloc, &opened.payload)?;
     if audience.is_none() {
         return Err(refused(Code::InvalidAudience, Spot::Aud));
