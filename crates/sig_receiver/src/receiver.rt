@@ -6,7 +6,7 @@ use crate::{Heard, Hearing, Ready, TakeFault};
 use sig_inbox::{Pair, Seen};
 use sig_json::{Memory, Text};
 use sig_sessions::{Row, Table, Verdict};
-use sig_set::{Claims, LastHeader, PreparedTrust, Refusal, claims_of, judge_prepared};
+use sig_set::{Claims, LastHeader, PreparedTrust, Refusal, claims_of_next, judge_prepared};
 use sig_subject::Subject;
 use std::alloc::Global;
 use std::marker::Model;
@@ -152,7 +152,7 @@ impl Receiver {
         ensures taken { OnOk result (received self.new ≡ received_of (received self.old) (text.now ∷ [])) }
         ensures err { OnErr result (received self.new ≡ received self.old) }
     {
-        let claims = match claims_of(self.alloc, text) {
+        let claims = match claims_of_next(self.alloc, &mut self.last, text) {
             Ok(claims) => claims,
             Err(fault) => return Err(TakeFault::of_claims(fault)),
         };

@@ -28,7 +28,7 @@ impl Model for Header {
 
     ghost view = { λ h. h.bytes };
 
-    ghost invariant = { λ h. IsKnown h.bytes (view h.value) };
+    ghost invariant = { λ h. IsKnown h.bytes h.value };
 }
 
 impl Header {

@@ -33,7 +33,7 @@ mod writing;
 pub use judging::{judge, judge_prepared};
 pub use last_header::LastHeader;
 pub use prepared::{PreparedIssuer, PreparedTrust};
-pub use reading::{ClaimsFault, claims_of};
+pub use reading::{ClaimsFault, claims_of, claims_of_next};
 pub use refusal::{Code, Refusal, Spot};
 pub use sig_event::Claims;
 pub use trust::{Issuer, Trust};

@@ -40,7 +40,18 @@ impl<R: MemoryRefusal> From<R> for ClaimsFault {
 pub fn claims_of(alloc: Global, bytes: &[u8]) -> Result<Claims, ClaimsFault>
     ensures { Answers ClaimsFault.Memory result (claims_read bytes.now) }
 {
-    match spoken(alloc, bytes) {
+    claims_of_next(alloc, &mut LastHeader::none(), bytes)
+}
+
+/// The same of the next of many texts, with the header that was the last one; whatever that was, the answer is the same.
+pub fn claims_of_next(
+    alloc: Global,
+    last: &mut LastHeader,
+    bytes: &[u8],
+) -> Result<Claims, ClaimsFault>
+    ensures { Answers ClaimsFault.Memory result (claims_read bytes.now) }
+{
+    match spoken(alloc, last, bytes) {
         Ok(claims) => Ok(claims),
         Err(Refusal::Coded { spot, .. }) => Err(ClaimsFault::Bad(spot)),
         Err(Refusal::Memory) => Err(ClaimsFault::Memory),
@@ -48,10 +59,10 @@ pub fn claims_of(alloc: Global, bytes: &[u8]) -> Result<Claims, ClaimsFault>
 }
 
 // The claims of the text, or the refusal of the first check that fails.
-fn spoken(alloc: Global, bytes: &[u8]) -> Result<Claims, Refusal>
+fn spoken(alloc: Global, last: &mut LastHeader, bytes: &[u8]) -> Result<Claims, Refusal>
     ensures { Answers Refusal.Memory result (unless_refused (first_failing (reading_checks bytes.now)) (claims_of bytes.now)) }
 {
-    let opened = open(alloc, &mut LastHeader::none(), bytes)?;
+    let opened = open(alloc, last, bytes)?;
     let audience = audience(alloc, &opened.payload)?;
     if audience.is_none() {
         return Err(refused(Code::InvalidAudience, Spot::Aud));

@@ -1,6 +1,8 @@
 //! Trust, and what a judgement gives, move between threads and may be shared by them, which the check of these calls shows.
 
-use crate::{ClaimsFault, Code, Issuer, LastHeader, PreparedTrust, Refusal, Spot, Trust, WriteFault};
+use crate::{
+    ClaimsFault, Code, Issuer, LastHeader, PreparedTrust, Refusal, Spot, Trust, WriteFault,
+};
 use sig_json::crosses_threads;
 
 fn types_cross() {

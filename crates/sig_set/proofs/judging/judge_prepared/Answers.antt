@@ -1,7 +1,8 @@
-use Rattle.std.proofs.Common.{◌≡◌, ◌++◌, true, rules}
+use Rattle.std.proofs.Common.{◌≡◌, ◌++◌, ◌∙◌, ap, sym, true, rules}
 use Rattle.std.proofs.lemmas.Result.{err_from_is_err_and}
-use Rattle.std.specs.Prelude.{is_some, option_copied}
+use Rattle.std.specs.Prelude.{Some, is_some, option_and_then, option_copied}
 use Rattle.serde_json.specs.View.{view}
+use Rattle.sig_json.specs.Json.{json_of}
 use Rattle.sig_set.specs.Claims.{content_checks}
 use Rattle.sig_set.specs.Judgement.{claims_of, form_checks, header_in, payload_in, token_in, trust_checks}
 use Rattle.sig_set.proofs.Chains.{behind_part, first_refused}
@@ -27,14 +28,15 @@ returns-in_err-check_trust c =
     let named = option_copied c.args.named in
     let opened = c.in_ok-opened.opened in
     let told = c.in_ok-opened.ensures in
+    let head : header_in token ≡ Some (view c.value.result.now) = ap header_in told.token ∙ ap (option_and_then json_of) (sym told.header) ∙ c.value.ensures in
     let behind = trust_checks c.args.trust.now principal token (header_in token) (payload_in token) ++ content_checks named (payload_in token) in
     let somebody : is_some principal ≡ true = search (rules, c.is_none.ensures, c.if-is_none.false) in
     let r = c.from_residual-in_err-check_trust.result in
     let p = err_from_is_err_and r c.from_residual-in_err-check_trust.ensures.1 in
     brought principal (form_checks bytes ++ behind) (claims_of bytes) r somebody
     (behind_part (form_checks bytes) behind tt tt (claims_of bytes) r told.checks
-    (trust_refused c.args.trust.now principal named token (header_in token) (payload_in token) opened.token (view opened.header) (view opened.payload)
-    c.in_err-check_trust.field-0.0 r told.token told.header told.payload (rw p.2 at p.1) c.in_err-check_trust.ensures))
+    (trust_refused c.args.trust.now principal named token (header_in token) (payload_in token) opened.token (view c.value.result.now) (view opened.payload)
+    c.in_err-check_trust.field-0.0 r told.token head told.payload (rw p.2 at p.1) c.in_err-check_trust.ensures))
 
 pub returns : goal.returns
 returns c =
@@ -44,9 +46,10 @@ returns c =
     let named = option_copied c.args.named in
     let opened = c.in_ok-opened.opened in
     let told = c.in_ok-opened.ensures in
+    let head : header_in token ≡ Some (view c.value.result.now) = ap header_in told.token ∙ ap (option_and_then json_of) (sym told.header) ∙ c.value.ensures in
     let behind = trust_checks c.args.trust.now principal token (header_in token) (payload_in token) ++ content_checks named (payload_in token) in
     let somebody : is_some principal ≡ true = search (rules, c.is_none.ensures, c.if-is_none.false) in
     brought principal (form_checks bytes ++ behind) (claims_of bytes) c.content.result somebody
     (behind_part (form_checks bytes) behind tt tt (claims_of bytes) c.content.result told.checks
-    (trusted c.args.trust.now principal named token (header_in token) (payload_in token) opened.token (view opened.header) (view opened.payload)
-    c.content.result told.token told.header told.payload c.in_ok-check_trust.ensures c.content.ensures))
+    (trusted c.args.trust.now principal named token (header_in token) (payload_in token) opened.token (view c.value.result.now) (view opened.payload)
+    c.content.result told.token head told.payload c.in_ok-check_trust.ensures c.content.ensures))

@@ -2,7 +2,7 @@ use Rattle.sig_json.specs.Checks.{first_failing}
 use Rattle.sig_set.specs.Judgement.{claims_of}
 use Rattle.sig_set.specs.Reading.{reading_checks}
 use Rattle.sig_set.proofs.Judged.{as_read, as_refused}
-use Rattle.sig_set.proofs.reading.claims_of.Goals as goal
+use Rattle.sig_set.proofs.reading.claims_of_next.Goals as goal
 
 pub returns-in-Ok : goal.returns-in-Ok
 returns-in-Ok c = as_read (first_failing (reading_checks c.args.bytes.now)) (claims_of c.args.bytes.now) c.in-Ok.claims c.in-Ok.ensures
