@@ -1,0 +1,13 @@
+pub mod AsksBack
+pub mod ByNames
+pub mod CodesBack
+pub mod Collected
+pub mod EmptyAsks
+pub mod PushBack
+pub mod PutErrors
+pub mod PutTokens
+pub mod ReadInOrder
+pub mod SetsBack
+pub mod SetsText
+pub mod TokenTexts
+pub mod WholeAsks
