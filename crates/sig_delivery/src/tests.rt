@@ -78,10 +78,9 @@ fn an_ask_is_written_and_read(rt: HostRuntime) -> Result<(), Fail> {
     let alloc = rt.alloc();
     let ask = ask(alloc)?;
     let text = write_ask(alloc, &ask)?;
-    assert!(rt;
-        text.as_slice()
-            == b"{\"ack\":[\"s.1\"],\"maxEvents\":32,\"returnImmediately\":true,\"setErrs\":{\"s.2\":{\"description\":\"invalid_key\",\"err\":\"invalid_key\"}}}"
-    );
+    let wanted =
+        r#"{"ack":["s.1"],"maxEvents":32,"returnImmediately":true,"setErrs":{"s.2":{"description":"invalid_key","err":"invalid_key"}}}"#;
+    assert!(rt; text.as_slice() == wanted.as_bytes());
     assert!(rt; read_ask(alloc, text.as_slice())?.same(&ask));
     Ok(())
 }
@@ -153,8 +152,7 @@ fn a_refusal_says_its_code_in_english(rt: HostRuntime) -> Result<(), Fail> {
     };
     assert!(rt; response.status == 400);
     assert!(rt; response.headers.as_slice().contains(&language));
-    assert!(rt;
-        response.body.as_slice() == b"{\"description\":\"typ\",\"err\":\"invalid_request\"}"
-    );
+    let wanted = r#"{"description":"typ","err":"invalid_request"}"#;
+    assert!(rt; response.body.as_slice() == wanted.as_bytes());
     Ok(())
 }
