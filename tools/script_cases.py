@@ -1,8 +1,8 @@
 """Whole scripts for `replay`, one for each group of lines, and what each prints.
 
 In `scripts/*.txt` a line that begins with `> ` is what the line before it prints, worked out by hand; every other line is
-the script's. `caep:NAME` and `risc:NAME` stand for the URI of a type of event, and `id:N` for a UUID that ends with that
-number. What a script prints is computed by `replay_model.py`; where it isn't what stands by hand, nothing is made.
+the script's. `caep:NAME` and `risc:NAME` stand for the URI of a type of event, `id:N` for a UUID that ends with that number,
+and `many:C:N` for so many of one character. What a script prints is computed by `replay_model.py`; where it isn't what stands by hand, nothing is made.
 """
 import pathlib
 import re
@@ -11,12 +11,13 @@ import sys
 import replay_model
 
 FOLDER = pathlib.Path(__file__).resolve().parent / "scripts"
-GROUPS = ["streams", "statuses", "subjects", "tokens", "verification"]
+GROUPS = ["streams", "statuses", "subjects", "tokens", "verification", "absent", "sizes", "filters", "names"]
 PREFIX = "https://schemas.openid.net/secevent/"
 
 
 def spelled(line):
     line = re.sub(r'"(caep|risc):([a-z-]+)"', rf'"{PREFIX}\1/event-type/\2"', line)
+    line = re.sub(r'"many:(\\?.):([0-9]+)"', lambda found: f'"{found[1] * int(found[2])}"', line)
     return re.sub(r'"id:([0-9]+)"', lambda found: f'"00000000-0000-0000-0000-{int(found[1]):012}"', line)
 
 
