@@ -1,0 +1,5 @@
+pub mod AskLemmas
+pub mod Joined
+pub mod ReplyLemmas
+pub mod RouteLemmas
+pub mod WholeDocuments
