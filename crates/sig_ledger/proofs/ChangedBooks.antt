@@ -7,27 +7,30 @@ use Rattle.std.proofs.Math.ListN.{set}
 use Rattle.sig_event.specs.declared.news.News.{News}
 use Rattle.sig_event.specs.declared.status.Status.{Status}
 use Rattle.std.proofs.lemmas.List.{length-append}
+use Rattle.sig_terms.specs.declared.want.Delivery.{Delivery}
 use Rattle.sig_terms.specs.declared.configuration.StreamConf.{StreamConf}
 use Rattle.sig_terms.specs.declared.fact.Fact.{Fact}
-use Rattle.sig_terms.specs.declared.fact.Fact.TheVariants.{Created, StatusSet, Deleted, Published, Settled, Asked}
+use Rattle.sig_terms.specs.declared.fact.Fact.TheVariants.{Created, Configured, StatusSet, Deleted, Published, Settled, Asked}
 use Rattle.sig_terms.specs.declared.fact.SettledItem.{SettledItem}
 use Rattle.sig_history.specs.Streams.{Stream, Count, Publication, client_in, count_one, created_by, is_named, issued_of, stands}
 use Rattle.sig_history.specs.Facts.{brought_by, counted, new_stream, published_by, removed_by, updated_news, verified_news}
 use Rattle.sig_history.specs.Owed.{sum_of}
-use Rattle.sig_history.specs.Sound.{Fits, are_owed, each_once, is_apt, may_be_made}
+use Rattle.sig_history.specs.Sound.{Fits, are_owed, each_once, is_apt, is_small, may_be_made}
 use Rattle.sig_history.specs.Owed.{Sum, owed_by}
 use Rattle.sig_history.specs.Facts.{made_by}
 use Rattle.sig_history.proofs.StepLemmas.{AreDistinct}
 use Rattle.sig_history.proofs.WholeLemmas.{whole_distinct}
-use Rattle.sig_ledger.specs.declared.debt.Said.{Said}
-use Rattle.sig_ledger.specs.declared.debt.Said.TheVariants as said
-use Rattle.sig_ledger.specs.Books.{AreKept, Balance, Books, Owing, first_changed, has_name, opened, owing_after, owing_in, put_balance, put_owing, stream_in, sum_in}
+use Rattle.sig_accounts.specs.declared.debt.Said.{Said}
+use Rattle.sig_accounts.specs.declared.debt.Said.TheVariants as said
+use Rattle.sig_accounts.specs.Owings.{Balance, Owing, first_changed, has_name, opened, owing_after, owing_in, put_balance, put_owing, stream_in}
+use Rattle.sig_ledger.specs.Books.{AreKept, Books, sum_in}
 use Rattle.sig_history.specs.Streams.{is_before}
 use Rattle.sig_ledger.specs.Room.{HaveRoom}
 use Rattle.std.proofs.Common.{false, if◌then◌else◌}
-use Rattle.sig_ledger.proofs.FoundLemmas.{book_streams}
-use Rattle.sig_ledger.proofs.ChangeLemmas.{changed_at, created_all, deleted_all, removed_at, stands_at}
-use Rattle.sig_ledger.proofs.TakenBooks.{MayTake, last_news, placed_owing, taken, taken_kept, taken_sum, without_owing}
+use Rattle.sig_accounts.proofs.FoundLemmas.{book_streams}
+use Rattle.sig_accounts.proofs.ChangeLemmas.{changed_at, created_all, deleted_all, removed_at, stands_at}
+use Rattle.sig_ledger.proofs.TakenBooks.{MayTake, taken, taken_kept, taken_sum}
+use Rattle.sig_accounts.proofs.StandingLemmas.{last_news, placed_owing, without_owing}
 
 -- ---- one stream
 
@@ -81,6 +84,12 @@ distinct_in b kept =
 
 pub apt_by : (sum : Sum) (f : Fact) → Fits sum f → is_apt sum f ≡ true
 apt_by sum f fits = (and_parts (may_be_made (made_by sum.parts f)) (is_apt sum f) fits).1
+
+pub configured_stands : (sum : Sum) (name : List ℕ) (requested : Option (List (List ℕ))) (delivery : Delivery) (description : Option (List ℕ))
+    → Fits sum (Configured name requested delivery description) → stands name sum.parts.streams ≡ true
+configured_stands sum name requested delivery description fits =
+    (and_parts (stands name sum.parts.streams) (is_small requested delivery description)
+    (apt_by sum (Configured name requested delivery description) fits)).0
 
 pub settled_stands : (sum : Sum) (name : List ℕ) (items : List SettledItem) → Fits sum (Settled name items) → stands name sum.parts.streams ≡ true
 settled_stands sum name items fits =

@@ -1,92 +1,59 @@
 -- The stream of a name, in the books and in what they come to.
-use Rattle.std.proofs.Common.{◌≡◌, ap, ℕ, List, [], ◌∷◌, length, map, true, false, ◌||◌, None, Some, if◌then◌else◌, refl}
-use Rattle.std.specs.Prelude.{option_map}
-use Rattle.std.proofs.lemmas.List.{length-map}
-use Rattle.sig_history.specs.Streams.{Publication, is_named, stands}
-use Rattle.sig_history.specs.Owed.{owed_in, owed_by, owed_count}
-use Rattle.sig_history.specs.Standings.{owed_in_standing, stream_in}
-use Rattle.sig_ledger.specs.Books.{Books, Owing, made_of, owing_named, standing_of, sum_in}
-use Rattle.sig_ledger.specs.Books as books
-
--- the streams of the books are those that they come to
-pub book_streams : (sid : List ℕ) (published : List Publication) (os : List Owing)
-    → map stream_in (map (standing_of sid published) os) ≡ map books.stream_in os
-book_streams sid published [] = refl
-book_streams sid published (o ∷ os) = ap (λ l. o.stream ∷ l) (book_streams sid published os)
-
--- where it stands, what is found is what it owes
-found_in : (sid : List ℕ) (published : List Publication) (name : List ℕ) (os : List Owing) (o : Owing) → owing_named name os ≡ Some o
-    → owed_in name (map stream_in (map (standing_of sid published) os)) (map owed_in_standing (map (standing_of sid published) os))
-    ≡ map (made_of sid published o.stream) o.owed
-found_in sid published name [] o found = cc
-found_in sid published name (p ∷ ps) o found =
-    elim (is_named name p.stream) as (λ b. (if b then Some p else owing_named name ps) ≡ Some o
-    → (if b then map (made_of sid published p.stream) p.owed
-    else owed_in name (map stream_in (map (standing_of sid published) ps)) (map owed_in_standing (map (standing_of sid published) ps)))
-    ≡ map (made_of sid published o.stream) o.owed) [
-      | true ↦ λ found. (let same : p ≡ o = cc in ap (λ (q : Owing). map (made_of sid published q.stream) q.owed) same)
-      | false ↦ λ found. found_in sid published name ps o found
-    ] found
+use Rattle.std.proofs.Common.{◌≡◌, ◌∙◌, ap, sym, ℕ, ◌==◌, ◌&&◌, Bool, List, [], filter, length, map, nat_eq, true, false, None, Some, refl}
+use Rattle.std.specs.Prelude.{Option, is_some, option_map}
+use Rattle.std.specs.List.{list_any}
+use Rattle.sig_terms.specs.declared.fact.SettledItem.{SettledItem}
+use Rattle.sig_history.specs.Sound.{are_owed, each_once}
+use Rattle.sig_history.specs.Streams.{stands}
+use Rattle.sig_history.specs.Owed.{names_number, owed_by, owed_count}
+use Rattle.sig_accounts.specs.Owings.{AreNumbers, Owing, made_of, owing_named}
+use Rattle.sig_ledger.specs.Books.{AreKept, Books, sum_in}
+use Rattle.sig_accounts.specs.declared.debt.Debt.{Debt}
+use Rattle.sig_accounts.proofs.SettleLemmas.{found_rises, items_owed, settled_all}
+use Rattle.sig_accounts.proofs.TextLemmas.{filter_alike}
+use Rattle.sig_accounts.proofs.FoundLemmas.{counted_in, found_in, missing_in, named_stands, none_in, stands_in}
 
 pub found_owed : (b : Books) (name : List ℕ) (o : Owing) → owing_named name b.owings ≡ Some o
     → owed_by (sum_in b) name ≡ map (made_of b.store_id b.published o.stream) o.owed
 found_owed b name o found = found_in b.store_id b.published name b.owings o found
 
-stands_in : (sid : List ℕ) (published : List Publication) (name : List ℕ) (os : List Owing) (o : Owing) → owing_named name os ≡ Some o
-    → stands name (map stream_in (map (standing_of sid published) os)) ≡ true
-stands_in sid published name [] o found = cc
-stands_in sid published name (p ∷ ps) o found =
-    elim (is_named name p.stream) as (λ b. (if b then Some p else owing_named name ps) ≡ Some o
-    → (b || stands name (map stream_in (map (standing_of sid published) ps))) ≡ true) [
-      | true ↦ λ found. refl
-      | false ↦ λ found. stands_in sid published name ps o found
-    ] found
-
 pub found_stands : (b : Books) (name : List ℕ) (o : Owing) → owing_named name b.owings ≡ Some o → stands name (sum_in b).parts.streams ≡ true
 found_stands b name o found = stands_in b.store_id b.published name b.owings o found
-
-missing_in : (sid : List ℕ) (published : List Publication) (name : List ℕ) (os : List Owing) → owing_named name os ≡ None
-    → stands name (map stream_in (map (standing_of sid published) os)) ≡ false
-missing_in sid published name [] found = refl
-missing_in sid published name (p ∷ ps) found =
-    elim (is_named name p.stream) as (λ b. (if b then Some p else owing_named name ps) ≡ None
-    → (b || stands name (map stream_in (map (standing_of sid published) ps))) ≡ false) [
-      | true ↦ λ found. cc
-      | false ↦ λ found. missing_in sid published name ps found
-    ] found
 
 -- where it doesn't, nothing is found and nothing is owed
 pub missing_stands : (b : Books) (name : List ℕ) → owing_named name b.owings ≡ None → stands name (sum_in b).parts.streams ≡ false
 missing_stands b name missing = missing_in b.store_id b.published name b.owings missing
 
-none_in : (sid : List ℕ) (published : List Publication) (name : List ℕ) (os : List Owing) → owing_named name os ≡ None
-    → owed_in name (map stream_in (map (standing_of sid published) os)) (map owed_in_standing (map (standing_of sid published) os)) ≡ []
-none_in sid published name [] missing = refl
-none_in sid published name (p ∷ ps) missing =
-    elim (is_named name p.stream) as (λ b. (if b then Some p else owing_named name ps) ≡ None
-    → (if b then map (made_of sid published p.stream) p.owed
-    else owed_in name (map stream_in (map (standing_of sid published) ps)) (map owed_in_standing (map (standing_of sid published) ps))) ≡ []) [
-      | true ↦ λ missing. cc
-      | false ↦ λ missing. none_in sid published name ps missing
-    ] missing
-
 pub missing_owed : (b : Books) (name : List ℕ) → owing_named name b.owings ≡ None → owed_by (sum_in b) name ≡ []
 missing_owed b name missing = none_in b.store_id b.published name b.owings missing
 
--- how many tokens it owes
-counted_in : (sid : List ℕ) (published : List Publication) (name : List ℕ) (os : List Owing)
-    → (if stands name (map stream_in (map (standing_of sid published) os))
-    then Some (length (owed_in name (map stream_in (map (standing_of sid published) os)) (map owed_in_standing (map (standing_of sid published) os)))) else None)
-    ≡ option_map (λ (o : Owing). length o.owed) (owing_named name os)
-counted_in sid published name [] = refl
-counted_in sid published name (p ∷ ps) =
-    elim (is_named name p.stream) as (λ b. (if b || stands name (map stream_in (map (standing_of sid published) ps))
-    then Some (length (if b then map (made_of sid published p.stream) p.owed
-    else owed_in name (map stream_in (map (standing_of sid published) ps)) (map owed_in_standing (map (standing_of sid published) ps)))) else None)
-    ≡ option_map (λ (o : Owing). length o.owed) (if b then Some p else owing_named name ps)) [
-      | true ↦ ap (λ n. Some n) (length-map p.owed (made_of sid published p.stream))
-      | false ↦ counted_in sid published name ps
-    ]
-
 pub counted_of : (b : Books) (name : List ℕ) → owed_count (sum_in b) name ≡ option_map (λ (o : Owing). length o.owed) (owing_named name b.owings)
 counted_of b name = counted_in b.store_id b.published name b.owings
+
+-- items may be settled exactly where each is named once and as many debts have their numbers as there are items
+pub settled_apt : (b : Books) (name : List ℕ) (items : List SettledItem) (o : Owing) (numbers : List ℕ) → AreKept b
+    → owing_named name b.owings ≡ Some o → each_once items ≡ true → AreNumbers numbers items
+    → (length (filter (λ (d : Debt). list_any (nat_eq d.number) numbers) o.owed) == length items)
+    ≡ (stands name (sum_in b).parts.streams && are_owed items (owed_by (sum_in b) name) && each_once items)
+settled_apt b name items o numbers kept found once are =
+    ap (λ (l : List Debt). length l == length items)
+    (filter_alike (λ (d : Debt). list_any (nat_eq d.number) numbers) (λ (d : Debt). names_number d.number items) (λ d. are d.number) o.owed)
+    ∙ settled_all items 0 o.owed once (found_rises b.store_id b.published b.created name b.owings o kept.whole found)
+    ∙ sym (items_owed b.store_id b.published o.stream o.owed items)
+    ∙ ap (are_owed items) (sym (found_owed b name o found))
+    ∙ middle (stands name (sum_in b).parts.streams) (are_owed items (owed_by (sum_in b) name)) (each_once items) (found_stands b name o found) once
+  where
+    middle : (x y z : Bool) → x ≡ true → z ≡ true → y ≡ (x && y && z)
+    middle true true true first last = refl
+    middle true false true first last = refl
+    middle true y false first last = cc
+    middle false y z first last = cc
+
+mapped_some : {X Y : Type 0} (f : X → Y) (o : Option X) → is_some o ≡ is_some (option_map f o)
+mapped_some f None = refl
+mapped_some f (Some x) = refl
+
+-- the stream of a name stands where it is found
+pub stands_found : {X : Type 0} (b : Books) (name : List ℕ) (f : X → Owing) (found : Option X) → option_map f found ≡ owing_named name b.owings
+    → is_some found ≡ stands name (sum_in b).parts.streams
+stands_found b name f found is = mapped_some f found ∙ ap is_some is ∙ named_stands b.store_id b.published name b.owings

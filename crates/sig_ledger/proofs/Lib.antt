@@ -1,11 +1,5 @@
-pub mod TextLemmas
-pub mod BalanceLemmas
-pub mod CountLemmas
-pub mod NameLemmas
-pub mod RoomLemmas
-pub mod PlaceLemmas
 pub mod FoundLemmas
-pub mod IssuedLemmas
-pub mod ChangeLemmas
+pub mod RoomLemmas
 pub mod TakenBooks
 pub mod ChangedBooks
+pub mod SameBooks

@@ -11,11 +11,13 @@ use Rattle.sig_terms.specs.declared.fact.Fact.TheVariants.{Listed, StatusSet}
 use Rattle.sig_history.specs.Facts.{is_told}
 use Rattle.sig_history.specs.Standings as standings
 use Rattle.sig_history.specs.Streams.{Stream, Count, Publication, is_named}
-use Rattle.sig_ledger.specs.declared.debt.Notice.{Notice}
-use Rattle.sig_ledger.proofs.FoundLemmas.{book_streams}
+use Rattle.sig_accounts.specs.declared.debt.Notice.{Notice}
+use Rattle.sig_accounts.proofs.FoundLemmas.{book_streams}
 use Rattle.sig_history.specs.Whole.{IsWhole}
-use Rattle.sig_ledger.specs.Books.{Balance, notice_for, owing_in, room_in, standing_of, stream_in, subjects_in, sum_in}
-use Rattle.sig_ledger.specs.Room.{HasRoomFor, HaveRoom, IsBelowTop}
+use Rattle.sig_accounts.specs.Owings.{Balance, notice_for, owing_in, room_in, standing_of, stream_in, subjects_in}
+use Rattle.sig_ledger.specs.Books.{sum_in}
+use Rattle.sig_accounts.specs.Owings.{HasRoomFor, IsBelowTop}
+use Rattle.sig_ledger.specs.Room.{HaveRoom}
 
 pub rooms_held : (test : Stream → Bool) (room : Balance → ℕ) (bs : List Balance)
     → HaveRoom test (map stream_in (map owing_in bs)) (map room bs) → All (HasRoomFor test room) bs

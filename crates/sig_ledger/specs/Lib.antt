@@ -1,4 +1,3 @@
 pub mod Books
 pub mod Room
 pub mod Steps
-pub mod Places

@@ -1,14 +1,12 @@
 -- For what a ledger has room, and what a fact needs to be taken in without memory.
-use Rattle.std.specs.Prelude.{◌≡◌, ℕ, ◌+◌, ◌<◌, ◌^◌, List, [], ◌∷◌, Bool, true, Option, map, nat_eq}
-use Rattle.std.specs.List.{list_any}
+use Rattle.std.specs.Prelude.{◌≡◌, ℕ, ◌<◌, List, [], ◌∷◌, Bool, true, Option, map}
 use Rattle.sig_terms.specs.declared.fact.Fact.{Fact}
-use Rattle.sig_terms.specs.declared.fact.SettledItem.{SettledItem}
 use Rattle.sig_terms.specs.declared.fact.Fact.TheVariants.{Created, Configured, StatusSet, Listed, Unlisted, Deleted, Published, Settled, Asked}
 use Rattle.sig_terms.specs.declared.token.Issued.{Issued}
 use Rattle.sig_history.specs.Streams.{Stream, Parts, client_in, is_named, issued_of}
 use Rattle.sig_history.specs.Facts.{is_told, made_by}
-use Rattle.sig_history.specs.Owed.{names_number}
-use Rattle.sig_ledger.specs.Books.{Balance, Books}
+use Rattle.sig_accounts.specs.Owings.{AreNumbers}
+use Rattle.sig_ledger.specs.Books.{Books}
 
 -- for how many further items there is room: streams, counts of clients, publications, their ids in the index, and tokens and
 -- subjects of each stream
@@ -44,18 +42,6 @@ abbrev pub HaveRoom : (Stream → Bool) → List Stream → List ℕ → Type 0
 HaveRoom test [] rooms = Unit {0}
 HaveRoom test (s ∷ ss) [] = ⊥
 HaveRoom test (s ∷ ss) (room ∷ rooms) = (test s ≡ true → 0 < room) × HaveRoom test ss rooms
-
--- a stream of a kind has this room
-abbrev pub HasRoomFor : (Stream → Bool) → (Balance → ℕ) → Balance → Type 0
-HasRoomFor test room b = test b.owing.stream ≡ true → 0 < room b
-
--- one more number of its tokens is one that is held
-abbrev pub IsBelowTop : Balance → Type 0
-IsBelowTop b = b.owing.stream.made + 1 < 2 ^ 64
-
--- the numbers are those that are settled
-abbrev pub AreNumbers : List ℕ → List SettledItem → Type 0
-AreNumbers numbers items = (n : ℕ) → list_any (nat_eq n) numbers ≡ names_number n items
 
 -- what stands beside the fact is what is kept of it
 abbrev pub IsSpare : Parts → Fact → Spare → Type 0

@@ -1,18 +1,17 @@
 //! What a transmitter holds.
 
-ghost use Rattle.std.specs.Prelude.{◌≡◌, length, map, option_map};
+ghost use Rattle.std.specs.Prelude.{◌≡◌, ◌↔◌, IfOk, length, map, option_map, true};
 
 mod committing;
+mod fitting;
 mod readying;
 
-use crate::account::Account;
-use crate::accounts::{account_named, client_account, name_at, streams_of};
-use crate::counted::Counted;
-use crate::counts::created_by;
-use crate::places::place_of;
-use crate::publication::{Publication, publication_at};
 use indexmap::IndexMap;
-use sig_json::Text;
+use sig_accounts::{
+    Account, Counted, Publication, account_named, client_account, copy_accounts, copy_list,
+    created_by, name_at, place_of, places_of, publication_at, same_accounts, streams_of,
+};
+use sig_json::{Memory, Text, same_slices};
 use std::alloc::Global;
 use std::marker::Model;
 
@@ -33,8 +32,9 @@ pub struct Ledger {
 impl Model for Ledger {
     ghost use Rattle.std.specs.Prelude.{◌-◌, bytes_eq, map, vec_len, vec_capacity};
     ghost use Rattle.indexmap.specs.IndexMap.{get, spare};
-    ghost use Rattle.sig_ledger.specs.Books.{AreKept, owing_in, room_in, subjects_in};
-    ghost use Rattle.sig_ledger.specs.Places.{IsIndex};
+    ghost use Rattle.sig_accounts.specs.Owings.{owing_in, room_in, subjects_in};
+    ghost use Rattle.sig_ledger.specs.Books.{AreKept};
+    ghost use Rattle.sig_accounts.specs.Places.{IsIndex};
     ghost use Rattle.sig_ledger.specs.Room.{Held};
 
     ghost Value = { Held };
@@ -68,7 +68,8 @@ impl Ledger {
     ghost use Rattle.std.specs.List.{slice_get};
     ghost use Rattle.sig_history.specs.Owed.{empty_sum, owed_count};
     ghost use Rattle.sig_history.specs.Streams as streams;
-    ghost use Rattle.sig_ledger.specs.Books.{AreKept, client_owing, owing_in, owing_named, sum_in};
+    ghost use Rattle.sig_accounts.specs.Owings.{client_owing, owing_in, owing_named};
+    ghost use Rattle.sig_ledger.specs.Books.{AreKept, sum_in};
 
     /// A new store's: no stream stands. It takes no memory.
     pub fn new(alloc: Global, store_id: [u8; 16]) -> Ledger
@@ -82,6 +83,41 @@ impl Ledger {
             published: Vec::new(alloc),
             places: IndexMap::new(alloc),
         }
+    }
+
+    /// An equal ledger, with room of its own.
+    pub fn copy(&self) -> Result<Ledger, Memory>
+        ensures { IfOk result (λ l. l.books ≡ self.now.books) }
+    {
+        let alloc = self.alloc;
+        Ok(Ledger {
+            alloc,
+            store_id: self.store_id,
+            accounts: copy_accounts(alloc, self.accounts.as_slice())?,
+            created: copy_list(alloc, self.created.as_slice())?,
+            published: copy_list(alloc, self.published.as_slice())?,
+            places: places_of(alloc, self.published.as_slice())?,
+        })
+    }
+
+    /// Whether two ledgers come to the same. It takes no memory.
+    pub fn same(&self, other: &Ledger) -> bool
+        ensures { (result ≡ true) ↔ (sum_in self.now.books ≡ sum_in other.now.books) }
+    {
+        let everything = self.published();
+        let some = self.accounts();
+        let others = other.accounts();
+        self.has_same_records(other) && same_accounts(everything, some, others)
+    }
+
+    // Whether both are of one store, with the same counts and publications.
+    fn has_same_records(&self, other: &Ledger) -> bool
+        ensures { (result ≡ true) ↔ ((self.now.books.store_id ≡ other.now.books.store_id)
+            × (self.now.books.created ≡ other.now.books.created) × (self.now.books.published ≡ other.now.books.published)) }
+    {
+        self.store_id == other.store_id
+            && same_slices(self.created.as_slice(), other.created.as_slice())
+            && same_slices(self.published.as_slice(), other.published.as_slice())
     }
 
     /// Says nothing at run time. Its contract: the books are kept, which rests on each change of them.

@@ -3,13 +3,10 @@
 ghost use Rattle.std.specs.Prelude.{◌≡◌, ◌∷◌, [], IfOk, length};
 ghost use Rattle.sig_history.specs.Facts as facts;
 ghost use Rattle.sig_history.specs.Streams as streams;
-ghost use Rattle.sig_ledger.specs.Books as books;
-ghost use Rattle.sig_ledger.specs.Books.{IsPlaced, made_of};
+ghost use Rattle.sig_accounts.specs.Owings as owings;
+ghost use Rattle.sig_accounts.specs.Owings.{IsPlaced, made_of};
 
-use crate::account::Account;
-use crate::debt::{Debt, Said};
-use crate::names::jti_text;
-use crate::publication::Publication;
+use sig_accounts::{Account, Debt, Publication, Said, jti_text};
 use sig_event::{Claims, Event, News, Status};
 use sig_json::{Items, Memory, Text, copy_items, copy_optional};
 use sig_subject::{Plain, Simple, Subject};
@@ -44,6 +41,23 @@ fn one_event(alloc: Global, event: &Event) -> Result<Items<Event>, Memory>
     let mut events = Vec::new(alloc);
     events.push(event.copy(alloc)?)?;
     Ok(Items::of(events))
+}
+
+/// When the tokens of a fact are made; facts that make none have no time that is asked. It takes no memory.
+pub fn time_of(fact: &Fact) -> u64
+    ensures { result ≡ facts.time_of fact.now }
+{
+    match fact {
+        Fact::Created { time, .. }
+        | Fact::StatusSet { time, .. }
+        | Fact::Published { time, .. }
+        | Fact::Asked { time, .. } => *time,
+        Fact::Configured { .. }
+        | Fact::Listed { .. }
+        | Fact::Unlisted { .. }
+        | Fact::Deleted { .. }
+        | Fact::Settled { .. } => 0,
+    }
 }
 
 /// The news that a fact tells; none where it tells none.
@@ -110,7 +124,7 @@ fn owed_claims(
 ) -> Result<Claims, Memory>
     requires { IsPlaced (length published.now) debt.now.said }
     ensures { IfOk result (λ c. c ≡ streams.claims_for store_id conf.now debt.now.number debt.now.time
-        (books.news_of published.now conf.now.stream debt.now.said)) }
+        (owings.news_of published.now conf.now.stream debt.now.said)) }
 {
     let number = debt.number;
     let time = debt.time;

@@ -14,7 +14,8 @@ use Rattle.sig_history.specs.Facts.{is_told, made_by, said_by, time_of, token_by
 use Rattle.sig_history.specs.Sound.{is_past, largest}
 use Rattle.sig_history.specs.Standings.{owed_in_standing, stream_in}
 use Rattle.sig_history.specs.Whole.{AreWhole}
-use Rattle.sig_ledger.specs.Books.{AreKept, Balance, Books, owing_in, standing_of, sum_in}
+use Rattle.sig_accounts.specs.Owings.{Balance, owing_in, standing_of}
+use Rattle.sig_ledger.specs.Books.{AreKept, Books, sum_in}
 use Rattle.sig_making.specs.Tokens.{IsNumbered, is_full, stream_of, tokens_on}
 
 -- ---- the largest payload

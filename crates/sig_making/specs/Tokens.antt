@@ -4,7 +4,7 @@ use Rattle.sig_json.specs.declared.limits.TheConstants.{LAST_NUMBER}
 use Rattle.sig_terms.specs.declared.fact.Fact.{Fact}
 use Rattle.sig_history.specs.Streams.{Stream, Made}
 use Rattle.sig_history.specs.Facts.{is_told, token_for}
-use Rattle.sig_ledger.specs.Books.{Balance}
+use Rattle.sig_accounts.specs.Owings.{Balance}
 
 -- the tokens that a fact makes on these streams
 abbrev pub tokens_on : List ℕ → Fact → List Stream → List Made

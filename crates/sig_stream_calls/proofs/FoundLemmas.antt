@@ -9,8 +9,9 @@ use Rattle.sig_history.specs.Streams.{Publication, Stream, is_named}
 use Rattle.sig_history.specs.Standings.{stream_in}
 use Rattle.sig_calls.specs.Found.{client_stream, told_by}
 use Rattle.sig_calls.specs.Told.{Told, outcome}
-use Rattle.sig_ledger.specs.Books as books
-use Rattle.sig_ledger.specs.Books.{Books, Owing, client_owing, standing_of, sum_in}
+use Rattle.sig_accounts.specs.Owings as books
+use Rattle.sig_accounts.specs.Owings.{Owing, client_owing, standing_of}
+use Rattle.sig_ledger.specs.Books.{Books, sum_in}
 
 client_in : (sid : List ℕ) (published : List Publication) (client name : List ℕ) (os : List Owing)
     → client_stream client name (map stream_in (map (standing_of sid published) os)) ≡ option_map books.stream_in (client_owing client name os)

@@ -6,7 +6,8 @@ ghost use Rattle.sig_history.specs.Streams.{Stream};
 ghost use Rattle.sig_calls.specs.Statuses as table;
 ghost use Rattle.sig_calls.specs.Found.{told_by};
 ghost use Rattle.sig_calls.specs.Told.{only, outcome, with_change};
-ghost use Rattle.sig_ledger.specs.Books.{stream_in, sum_in};
+ghost use Rattle.sig_accounts.specs.Owings.{stream_in};
+ghost use Rattle.sig_ledger.specs.Books.{sum_in};
 ghost use Rattle.sig_ledger.specs.Room.{HasRoom};
 ghost use Rattle.sig_ledger.specs.Steps.{reply_in};
 

@@ -9,9 +9,10 @@ use Rattle.sig_history.specs.Owed.{stream_named}
 use Rattle.sig_history.specs.Standings.{owed_in_standing, stream_in}
 use Rattle.sig_history.specs.Whole.{AreWhole}
 use Rattle.sig_calls.specs.Found.{client_stream}
-use Rattle.sig_ledger.specs.Books as books
-use Rattle.sig_ledger.specs.Books.{AreKept, ArePlaced, Books, IsPlaced, Owing, client_owing, owing_named, standing_of, sum_in}
-use Rattle.sig_ledger.specs.declared.debt.Debt.{Debt}
+use Rattle.sig_accounts.specs.Owings as books
+use Rattle.sig_accounts.specs.Owings.{ArePlaced, IsPlaced, Owing, client_owing, owing_named, standing_of}
+use Rattle.sig_ledger.specs.Books.{AreKept, Books, sum_in}
+use Rattle.sig_accounts.specs.declared.debt.Debt.{Debt}
 
 -- ---- the stream of a name
 

@@ -13,7 +13,8 @@ use Rattle.sig_history.specs.Owed.{Sum, offered_by}
 use Rattle.sig_calls.specs.Found.{told_by}
 use Rattle.sig_calls.specs.Handing.{delivering, first_names, pushed_by}
 use Rattle.sig_calls.specs.Told.{only, outcome}
-use Rattle.sig_ledger.specs.Books.{Books, Owing, made_of, owing_named, sum_in}
+use Rattle.sig_accounts.specs.Owings.{Owing, made_of, owing_named}
+use Rattle.sig_ledger.specs.Books.{Books, sum_in}
 use Rattle.sig_token_calls.specs.Handing.{new_names}
 use Rattle.sig_token_calls.specs.Offering.{open_debts}
 use Rattle.sig_token_calls.proofs.FoundLemmas.{named_is}

@@ -13,7 +13,8 @@ use Rattle.sig_calls.specs.Publishing.{later_publication}
 use Rattle.sig_calls.specs.Statuses.{operated, operating, state_of}
 use Rattle.sig_calls.specs.Told.{Told, making, only, outcome}
 use Rattle.sig_calls.specs.Verifying.{asked_after, asked_of, next_time, verifying}
-use Rattle.sig_ledger.specs.Books.{Books, Owing, client_owing, owing_named, sum_in}
+use Rattle.sig_accounts.specs.Owings.{Owing, client_owing, owing_named}
+use Rattle.sig_ledger.specs.Books.{Books, sum_in}
 use Rattle.sig_token_calls.specs.Replies.{early_answer, later_answer, refusal}
 use Rattle.sig_token_calls.proofs.FoundLemmas.{client_is, named_is}
 use Rattle.sig_token_calls.proofs.PolledLemmas.{answered}

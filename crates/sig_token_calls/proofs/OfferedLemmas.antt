@@ -10,10 +10,11 @@ use Rattle.sig_history.specs.Facts.{made_by, parts_after, stream_after, token_fo
 use Rattle.sig_history.specs.Owed.{Sum, is_of, names_number, offered_by, offers, owed_after, owed_by, stream_named, sum_of, survives, takes_off}
 use Rattle.sig_history.proofs.JoinLemmas.{filter_same, found}
 use Rattle.sig_calls.specs.Settling.{settled_fact}
-use Rattle.sig_ledger.specs.declared.debt.Debt.{Debt}
-use Rattle.sig_ledger.specs.Books.{Books, Owing, made_of, news_of, owing_named, sum_in}
+use Rattle.sig_accounts.specs.declared.debt.Debt.{Debt}
+use Rattle.sig_accounts.specs.Owings.{Owing, made_of, news_of, owing_named}
+use Rattle.sig_ledger.specs.Books.{Books, sum_in}
 use Rattle.sig_ledger.proofs.FoundLemmas.{found_owed, found_stands}
-use Rattle.sig_ledger.proofs.TextLemmas.{filter_all, text_itself}
+use Rattle.sig_accounts.proofs.TextLemmas.{filter_all, text_itself}
 use Rattle.sig_token_calls.specs.Offering as offering
 use Rattle.sig_token_calls.specs.Offering.{open_debts}
 use Rattle.sig_token_calls.proofs.FoundLemmas.{named_is}

@@ -17,8 +17,9 @@ use Rattle.sig_calls.specs.Found.{told_by}
 use Rattle.sig_calls.specs.Polling.{page_of, page_size, polled, polled_answer, polled_change, polling, settled_by, settled_items}
 use Rattle.sig_calls.specs.Settling.{settled_fact}
 use Rattle.sig_calls.specs.Told.{only, outcome, with_change}
-use Rattle.sig_ledger.specs.declared.debt.Debt.{Debt}
-use Rattle.sig_ledger.specs.Books.{Books, Owing, client_owing, made_of, owing_named, sum_in}
+use Rattle.sig_accounts.specs.declared.debt.Debt.{Debt}
+use Rattle.sig_accounts.specs.Owings.{Owing, client_owing, made_of, owing_named}
+use Rattle.sig_ledger.specs.Books.{Books, sum_in}
 use Rattle.sig_ledger.proofs.FoundLemmas.{found_owed}
 use Rattle.sig_token_calls.specs.Offering.{open_debts}
 use Rattle.sig_token_calls.specs.Replies.{polled_reply, settled_debts, told_as}

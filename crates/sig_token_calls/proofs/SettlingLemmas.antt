@@ -9,8 +9,9 @@ use Rattle.sig_history.specs.Streams.{Stream, Publication, Made}
 use Rattle.sig_history.specs.Sound.{has_number}
 use Rattle.sig_calls.specs.Settling.{outcome_item, settled_fact, settled_one, settling}
 use Rattle.sig_calls.specs.Told.{outcome}
-use Rattle.sig_ledger.specs.declared.debt.Debt.{Debt}
-use Rattle.sig_ledger.specs.Books.{Books, Owing, made_of, owing_named, sum_in}
+use Rattle.sig_accounts.specs.declared.debt.Debt.{Debt}
+use Rattle.sig_accounts.specs.Owings.{Owing, made_of, owing_named}
+use Rattle.sig_ledger.specs.Books.{Books, sum_in}
 use Rattle.sig_ledger.proofs.FoundLemmas.{found_owed, missing_owed}
 use Rattle.sig_token_calls.specs.Replies.{items_for}
 

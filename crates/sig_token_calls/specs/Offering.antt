@@ -4,8 +4,8 @@ use Rattle.sig_terms.specs.declared.fact.SettledItem.{SettledItem}
 use Rattle.sig_terms.specs.declared.want.Delivery.{Delivery}
 use Rattle.sig_history.specs.Streams.{Stream, Publication, Made, is_enabled, is_update, token_of}
 use Rattle.sig_history.specs.Owed.{names_number}
-use Rattle.sig_ledger.specs.Books.{news_of}
-use Rattle.sig_ledger.specs.declared.debt.Debt.{Debt}
+use Rattle.sig_accounts.specs.Owings.{news_of}
+use Rattle.sig_accounts.specs.declared.debt.Debt.{Debt}
 use Rattle.sig_token_calls.specs.declared.offering.Page.{Page}
 
 -- what it says is that the stream's status changed

@@ -14,8 +14,8 @@ use Rattle.sig_history.specs.Streams.{Publication, Stream, is_disabled, jti_of}
 use Rattle.sig_calls.specs.Polling.{page_of, page_size, settled_by}
 use Rattle.sig_calls.specs.Settling.{outcome_item, settled_fact}
 use Rattle.sig_calls.specs.Verifying.{next_time}
-use Rattle.sig_ledger.specs.Books.{Owing, made_of}
-use Rattle.sig_ledger.specs.declared.debt.Debt.{Debt}
+use Rattle.sig_accounts.specs.Owings.{Owing, made_of}
+use Rattle.sig_accounts.specs.declared.debt.Debt.{Debt}
 use Rattle.sig_token_calls.specs.declared.reply.Reply.{Reply}
 use Rattle.sig_token_calls.specs.Offering.{open_debts}
 

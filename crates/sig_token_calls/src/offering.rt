@@ -4,7 +4,7 @@ ghost use Rattle.std.specs.Prelude.{◌≡◌, ◌&&◌, All, IfOk, ℕ, List, l
 ghost use Rattle.indexmap.specs.IndexSet.{contains};
 ghost use Rattle.sig_history.specs.Owed.{names_number};
 ghost use Rattle.sig_terms.specs.Deliveries.{is_push};
-ghost use Rattle.sig_ledger.specs.Books.{IsPlaced, made_of};
+ghost use Rattle.sig_accounts.specs.Owings.{IsPlaced, made_of};
 ghost use Rattle.sig_token_calls.specs.Offering as offering;
 ghost use Rattle.sig_token_calls.specs.Offering.{open_debts, page_on};
 

@@ -7,9 +7,10 @@ ghost use Rattle.sig_json.specs.Answers.{Answers, result_map};
 ghost use Rattle.sig_calls.specs.Settling as table;
 ghost use Rattle.sig_calls.specs.Told as told;
 ghost use Rattle.sig_terms.specs.declared.answer.Answer.TheVariants as answer;
-ghost use Rattle.sig_ledger.specs.Books.{owing_named, sum_in};
+ghost use Rattle.sig_accounts.specs.Owings.{owing_named};
+ghost use Rattle.sig_ledger.specs.Books.{sum_in};
 ghost use Rattle.sig_ledger.specs.Room.{HasRoom};
-ghost use Rattle.sig_ledger.specs.declared.debt.Debt.{Debt};
+ghost use Rattle.sig_accounts.specs.declared.debt.Debt.{Debt};
 ghost use Rattle.sig_ledger.specs.Steps.{reply_in};
 ghost use Rattle.sig_token_calls.specs.Replies.{items_for};
 

@@ -2,17 +2,15 @@
 
 ghost use Rattle.std.specs.Prelude.{◌≡◌, ℕ, Bool, List, [], ◌∷◌, is_some, true};
 ghost use Rattle.sig_history.specs.Streams.{is_named};
-ghost use Rattle.sig_ledger.specs.Books.{notice_for};
+ghost use Rattle.sig_accounts.specs.Owings.{notice_for};
 
-use crate::account::Account;
-use crate::accounts::{hear_all, place_named, put};
-use crate::counts::{count_one, created_by};
-use crate::debt::{Notice, Said};
 use crate::ledger::Ledger;
-use crate::places::enter_place;
 use crate::prepared::{Prepared, Spare};
-use crate::publication::Publication;
 use indexmap::IndexSet;
+use sig_accounts::{
+    Account, Notice, Publication, Said, count_one, created_by, enter_place, hear_all, place_named,
+    put_account,
+};
 use sig_event::{News, Status};
 use sig_json::{Items, Text};
 use sig_subject::Subject;
@@ -34,7 +32,8 @@ impl Ledger {
     ghost use Rattle.sig_history.specs.Owed.{sum_of};
     ghost use Rattle.sig_history.specs.Sound.{Fits};
     ghost use Rattle.sig_ledger.specs.Books.{sum_in};
-    ghost use Rattle.sig_ledger.specs.Room.{AreNumbers, HasRoom, HaveRoom};
+    ghost use Rattle.sig_accounts.specs.Owings.{AreNumbers};
+    ghost use Rattle.sig_ledger.specs.Room.{HasRoom, HaveRoom};
     ghost use Rattle.sig_terms.specs.declared.fact.Fact.TheVariants.{Asked, Configured, Created, Deleted, Listed, Published, Settled, StatusSet, Unlisted};
     ghost use Rattle.sig_terms.specs.declared.fact.SettledItem.{SettledItem};
 
@@ -85,7 +84,7 @@ impl Ledger {
         let client = spare.into_client();
         let number = created_by(self.created.as_slice(), &client) + 1;
         let account = Account::open(self.alloc, number, conf);
-        put(&mut self.accounts, account);
+        put_account(&mut self.accounts, account);
         count_one(&mut self.created, client);
     }
 

@@ -4,13 +4,11 @@ ghost use Rattle.std.specs.Prelude.{◌≡◌, ◌<◌, IfOk, IfSome, OnOk, ℕ,
 ghost use Rattle.indexmap.specs.IndexSet.{contains};
 ghost use Rattle.sig_history.specs.Owed.{names_number};
 
-use crate::accounts::{issued_on, reserve_subjects, reserve_tokens};
 use crate::ledger::Ledger;
-use crate::names::client_in;
-use crate::places::reserve_place;
 use crate::prepared::{Prepared, Spare};
 use crate::step::Step;
 use indexmap::IndexSet;
+use sig_accounts::{client_in, issued_on, reserve_place, reserve_subjects, reserve_tokens};
 use sig_json::{Items, Memory, Text, copy_optional};
 use sig_terms::{Answer, Fact, Issued, SettledItem};
 use std::alloc::Global;

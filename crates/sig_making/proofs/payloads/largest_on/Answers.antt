@@ -1,7 +1,7 @@
 use Rattle.std.proofs.Common.{◌∙◌, ap, sym, ℕ, max, map, take, arith}
 use Rattle.sig_history.specs.Facts.{token_for}
 use Rattle.sig_history.specs.Sound.{largest}
-use Rattle.sig_ledger.specs.Books.{Balance}
+use Rattle.sig_accounts.specs.Owings.{Balance}
 use Rattle.sig_making.specs.Tokens.{stream_of, tokens_on}
 use Rattle.sig_making.proofs.TokenLemmas.{largest_more}
 use Rattle.sig_making.proofs.payloads.largest_on.Goals as goal

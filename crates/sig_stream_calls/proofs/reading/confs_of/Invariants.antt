@@ -1,6 +1,6 @@
 use Rattle.std.proofs.Common.{◌≡◌, ◌++◌, drop, map}
 use Rattle.sig_calls.specs.Configuring.{confs_of}
-use Rattle.sig_ledger.specs.Books.{owing_in, stream_in}
+use Rattle.sig_accounts.specs.Owings.{owing_in, stream_in}
 use Rattle.sig_stream_calls.proofs.reading.confs_of.Given as goal
 
 abbrev pub invariant-loop-account : goal.invariant-loop-account

@@ -5,9 +5,10 @@ use Rattle.sig_terms.specs.declared.configuration.StreamConf.{StreamConf}
 use Rattle.sig_terms.specs.declared.fault.PrepareFault.TheVariants.{Memory}
 use Rattle.sig_calls.specs.Configuring.{confs_of}
 use Rattle.sig_calls.specs.Told.{only, outcome, with_change}
-use Rattle.sig_ledger.specs.Books.{Owing, stream_in, sum_in}
+use Rattle.sig_accounts.specs.Owings.{Owing, stream_in}
+use Rattle.sig_ledger.specs.Books.{sum_in}
 use Rattle.sig_ledger.specs.Steps.{reply_in}
-use Rattle.sig_ledger.proofs.FoundLemmas.{book_streams}
+use Rattle.sig_accounts.proofs.FoundLemmas.{book_streams}
 use Rattle.sig_stream_calls.specs.declared.turn.Turn.{Turn}
 use Rattle.sig_stream_calls.proofs.reading.read_all.Goals as goal
 

@@ -2,8 +2,9 @@ use Rattle.std.proofs.Common.{◌≡◌, ◌∙◌, ap, sym, subst, ℕ, List, [
 use Rattle.sig_history.specs.Streams.{Publication, Stream, token_of, Made}
 use Rattle.sig_terms.specs.declared.token.Token.{Token}
 use Rattle.sig_calls.specs.Handing.{pushed_by}
-use Rattle.sig_ledger.specs.declared.debt.Debt.{Debt}
-use Rattle.sig_ledger.specs.Books.{Books, IsPlaced, Owing, made_of, owing_named, sum_in}
+use Rattle.sig_accounts.specs.declared.debt.Debt.{Debt}
+use Rattle.sig_accounts.specs.Owings.{IsPlaced, Owing, made_of, owing_named}
+use Rattle.sig_ledger.specs.Books.{Books, sum_in}
 use Rattle.sig_token_calls.specs.Offering.{open_debts}
 use Rattle.sig_token_calls.specs.declared.offering.Page.{Page}
 use Rattle.sig_token_calls.proofs.FoundLemmas.{found_placed}

@@ -2,12 +2,12 @@ use Rattle.std.proofs.Common.{◌∙◌, ap, sym, ℕ, ◌+◌, ◌-◌, List, [
 use Rattle.std.specs.Prelude.{filter}
 use Rattle.std.proofs.lemmas.List.{drop_all}
 use Rattle.indexmap.specs.IndexSet.{contains}
-use Rattle.sig_ledger.specs.declared.debt.Debt.{Debt}
+use Rattle.sig_accounts.specs.declared.debt.Debt.{Debt}
 use Rattle.sig_terms.specs.declared.token.Token.{Token}
 use Rattle.sig_terms.specs.declared.want.Delivery.{Delivery}
 use Rattle.sig_history.specs.Streams.{Made, Stream, token_of}
 use Rattle.sig_history.specs.Owed.{names_number}
-use Rattle.sig_ledger.specs.Books.{made_of}
+use Rattle.sig_accounts.specs.Owings.{made_of}
 use Rattle.sig_token_calls.specs.Offering.{offers, page_on}
 use Rattle.sig_token_calls.proofs.PageLemmas.{Sets, open_from, open_passed, page_full, page_is, page_more, page_step, some_room}
 use Rattle.sig_token_calls.proofs.offering.first_offered.Goals as goal

@@ -1,5 +1,5 @@
 use Rattle.std.proofs.Common.{◌≡◌, [], map, drop}
-use Rattle.sig_ledger.specs.Books.{made_of}
+use Rattle.sig_accounts.specs.Owings.{made_of}
 use Rattle.sig_token_calls.specs.Offering.{open_debts}
 use Rattle.sig_token_calls.proofs.PageLemmas.{page_step}
 use Rattle.sig_token_calls.proofs.offering.first_offered.Given as goal

@@ -8,7 +8,7 @@ use Rattle.sig_terms.specs.declared.fault.PrepareFault.{PrepareFault}
 use Rattle.sig_terms.specs.declared.fault.PrepareFault.TheVariants.{Memory}
 use Rattle.sig_terms.specs.Reply.{Reply}
 use Rattle.sig_calls.specs.Equality.{status_eq}
-use Rattle.sig_ledger.specs.Books.{owing_named}
+use Rattle.sig_accounts.specs.Owings.{owing_named}
 use Rattle.sig_ledger.specs.Steps.{reply_in}
 use Rattle.sig_making.proofs.MadeLemmas.{only_reply}
 use Rattle.sig_token_calls.proofs.FoundLemmas.{found_numbered}

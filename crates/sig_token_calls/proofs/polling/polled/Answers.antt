@@ -1,7 +1,8 @@
 use Rattle.std.proofs.Common.{◌≡◌, ◌∙◌, ap, sym, subst, ℕ, List, length, All, Ok}
 use Rattle.sig_history.specs.Streams.{Publication}
-use Rattle.sig_ledger.specs.declared.debt.Debt.{Debt}
-use Rattle.sig_ledger.specs.Books.{Books, IsPlaced, Owing}
+use Rattle.sig_accounts.specs.declared.debt.Debt.{Debt}
+use Rattle.sig_accounts.specs.Owings.{IsPlaced, Owing}
+use Rattle.sig_ledger.specs.Books.{Books}
 use Rattle.sig_token_calls.specs.Replies.{polled_reply, told_as}
 use Rattle.sig_token_calls.specs.declared.reply.Reply.{Reply}
 use Rattle.sig_token_calls.proofs.FoundLemmas.{client_named, found_placed}

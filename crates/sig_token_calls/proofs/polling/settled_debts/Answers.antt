@@ -1,7 +1,7 @@
 use Rattle.std.proofs.Common.{◌≡◌, ◌<◌, ◌^◌, ◌∙◌, ap, sym, ℕ, List, ◌++◌, Option, arith, rules, take}
 use Rattle.std.specs.List.{filter_map}
 use Rattle.std.specs.Option.{option_to_list}
-use Rattle.sig_ledger.specs.declared.debt.Debt.{Debt}
+use Rattle.sig_accounts.specs.declared.debt.Debt.{Debt}
 use Rattle.sig_terms.specs.declared.fact.SettledItem.{SettledItem}
 use Rattle.sig_history.specs.Streams.{jti_of}
 use Rattle.sig_calls.specs.Polling.{settled_by}

@@ -1,6 +1,6 @@
 use Rattle.std.proofs.Common.{◌≡◌, ◌==◌, drop}
 use Rattle.std.specs.List.{list_any}
-use Rattle.sig_ledger.specs.declared.debt.Debt.{Debt}
+use Rattle.sig_accounts.specs.declared.debt.Debt.{Debt}
 use Rattle.sig_token_calls.proofs.settling.owes.Given as goal
 
 abbrev pub invariant-loop-debt : goal.invariant-loop-debt

@@ -4,14 +4,15 @@ use Rattle.std.proofs.Math.ListN.{set}
 use Rattle.sig_terms.specs.declared.fact.Fact.{Fact}
 use Rattle.sig_history.specs.Owed.{sum_of}
 use Rattle.sig_history.specs.Sound.{Fits}
-use Rattle.sig_ledger.specs.Books.{Balance, Books, Owing, has_name, owing_in, sum_in}
+use Rattle.sig_accounts.specs.Owings.{Balance, Owing, has_name, owing_in}
+use Rattle.sig_ledger.specs.Books.{Books, sum_in}
 use Rattle.sig_ledger.specs.Room.{Held}
 use Rattle.sig_terms.specs.declared.fact.Fact.TheVariants.{Configured}
 use Rattle.sig_history.specs.Facts.{configured}
 use Rattle.sig_history.specs.Streams.{with_conf}
-use Rattle.sig_ledger.specs.Books.{owing_with}
-use Rattle.sig_ledger.proofs.ChangeLemmas.{configured_all}
-use Rattle.sig_ledger.proofs.ChangedBooks.{IsChange, apt_by, books_in, change_here, change_kept, change_sum, nothing_said, place_within}
+use Rattle.sig_accounts.specs.Owings.{owing_with}
+use Rattle.sig_accounts.proofs.ChangeLemmas.{configured_all}
+use Rattle.sig_ledger.proofs.ChangedBooks.{IsChange, books_in, change_here, change_kept, change_sum, configured_stands, nothing_said, place_within}
 use Rattle.sig_ledger.proofs.ledger.Ledger.configure.Goals as goal
 
 pub index_mut-requires : goal.index_mut-requires
@@ -23,7 +24,7 @@ index_mut-requires c =
     c.place_named-place.ensures ∙ ap (λ n. position_or_len (has_name n) c.as_slice.result.now) c.as_str.ensures.same
     ∙ ap (λ (bs : List Balance). position_or_len (has_name c.args.stream.now) bs) c.as_slice.ensures.value in
     let within : c.place_named-place.result < length c.self.inside.accounts.items =
-    subst (λ n. n < length c.self.inside.accounts.items) (sym at) (place_within b c.self.inside.accounts.items c.args.stream.now refl (apt_by (sum_in b) f fits)) in
+    subst (λ n. n < length c.self.inside.accounts.items) (sym at) (place_within b c.self.inside.accounts.items c.args.stream.now refl (configured_stands (sum_in b) c.args.stream.now c.args.requested c.args.delivery c.args.description fits)) in
     omega (arith, c.self.inside.accounts.ok)
 
 change : (c : goal.After-self-1) → IsChange (books_in c.self.inside.store_id c.self.inside.accounts.items c.self.inside.created.items c.self.inside.published.items) (Configured c.args.stream.now c.args.requested c.args.delivery c.args.description) nothing_said
@@ -36,7 +37,7 @@ change c =
     c.place_named-place.ensures ∙ ap (λ n. position_or_len (has_name n) c.as_slice.result.now) c.as_str.ensures.same
     ∙ ap (λ (bs : List Balance). position_or_len (has_name c.args.stream.now) bs) c.as_slice.ensures.value in
     let within : c.place_named-place.result < length c.self.inside.accounts.items =
-    subst (λ n. n < length c.self.inside.accounts.items) (sym at) (place_within b c.self.inside.accounts.items c.args.stream.now refl (apt_by (sum_in b) f fits)) in
+    subst (λ n. n < length c.self.inside.accounts.items) (sym at) (place_within b c.self.inside.accounts.items c.args.stream.now refl (configured_stands (sum_in b) c.args.stream.now c.args.requested c.args.delivery c.args.description fits)) in
     change_here b c.self.inside.accounts.items f nothing_said c.args.stream.now
     (λ (o : Owing). owing_with (with_conf (configured c.args.requested c.args.delivery c.args.description o.stream.conf) o.stream) o)
     c.place_named-place.result c.index_mut.result.now c.configure.new.self

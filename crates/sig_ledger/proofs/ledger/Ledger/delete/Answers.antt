@@ -4,7 +4,8 @@ use Rattle.sig_terms.specs.declared.fact.Fact.{Fact}
 use Rattle.sig_terms.specs.declared.fact.Fact.TheVariants.{Deleted}
 use Rattle.sig_history.specs.Owed.{sum_of}
 use Rattle.sig_history.specs.Sound.{Fits}
-use Rattle.sig_ledger.specs.Books.{AreKept, Balance, Books, has_name, owing_in, sum_in}
+use Rattle.sig_accounts.specs.Owings.{Balance, has_name, owing_in}
+use Rattle.sig_ledger.specs.Books.{AreKept, Books, sum_in}
 use Rattle.sig_ledger.specs.Room.{Held}
 use Rattle.sig_ledger.proofs.ChangedBooks.{apt_by, books_in, nothing_said, place_within, with_owings, without_is}
 use Rattle.sig_ledger.proofs.TakenBooks.{MayTake, taken, taken_kept, taken_sum}

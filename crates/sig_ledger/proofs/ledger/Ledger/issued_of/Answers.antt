@@ -1,10 +1,12 @@
 use Rattle.std.proofs.Common.{◌≡◌, ◌∙◌, ap, sym, subst, List, map, flat_map, All}
 use Rattle.sig_history.specs.Streams.{Stream, issued_of}
 use Rattle.sig_history.specs.Facts.{made_by, token_for}
-use Rattle.sig_ledger.specs.Books.{Balance, issued_by, owing_in, stream_in, sum_in}
-use Rattle.sig_ledger.specs.Room.{Held, IsBelowTop}
-use Rattle.sig_ledger.proofs.FoundLemmas.{book_streams}
-use Rattle.sig_ledger.proofs.IssuedLemmas.{issued_all}
+use Rattle.sig_accounts.specs.Owings.{Balance, issued_by, owing_in, stream_in}
+use Rattle.sig_ledger.specs.Books.{sum_in}
+use Rattle.sig_accounts.specs.Owings.{IsBelowTop}
+use Rattle.sig_ledger.specs.Room.{Held}
+use Rattle.sig_accounts.proofs.FoundLemmas.{book_streams}
+use Rattle.sig_accounts.proofs.IssuedLemmas.{issued_all}
 use Rattle.sig_ledger.proofs.RoomLemmas.{ok_is, tops_below}
 use Rattle.sig_ledger.proofs.ledger.Ledger.issued_of.Goals as goal
 

@@ -1,7 +1,7 @@
 use Rattle.std.proofs.Common.{◌∙◌, ap, sym, List, map, length, Some}
 use Rattle.std.specs.Prelude.{option_map}
-use Rattle.sig_ledger.specs.declared.debt.Debt.{Debt}
-use Rattle.sig_ledger.specs.Books.{Balance, Owing, owing_in, owing_named}
+use Rattle.sig_accounts.specs.declared.debt.Debt.{Debt}
+use Rattle.sig_accounts.specs.Owings.{Balance, Owing, owing_in, owing_named}
 use Rattle.sig_ledger.specs.Room.{Held}
 use Rattle.sig_ledger.proofs.FoundLemmas.{counted_of}
 use Rattle.sig_ledger.proofs.ledger.Ledger.owed.Goals as goal

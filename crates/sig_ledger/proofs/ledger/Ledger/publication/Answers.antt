@@ -3,7 +3,7 @@ use Rattle.std.specs.List.{slice_get}
 use Rattle.indexmap.specs.IndexMap.{get}
 use Rattle.sig_history.specs.Streams.{Publication, publication_of}
 use Rattle.sig_ledger.specs.Room.{Held}
-use Rattle.sig_ledger.proofs.PlaceLemmas.{found_at}
+use Rattle.sig_accounts.proofs.PlaceLemmas.{found_at}
 use Rattle.sig_ledger.proofs.ledger.Ledger.publication.Goals as goal
 
 pub returns-in-None : goal.returns-in-None

@@ -7,16 +7,18 @@ use Rattle.sig_history.specs.Streams.{Stream, Publication, is_due, issued_of}
 use Rattle.sig_history.specs.Facts.{made_by}
 use Rattle.sig_history.specs.Owed.{sum_of}
 use Rattle.sig_history.specs.Sound.{Fits}
-use Rattle.sig_ledger.specs.declared.debt.Said.{Said}
-use Rattle.sig_ledger.specs.declared.debt.Said.TheVariants as said
-use Rattle.sig_ledger.specs.Books.{AreKept, Balance, Books, Owing, owing_after, owing_heard, owing_in, room_in, stream_in, sum_in}
-use Rattle.sig_ledger.specs.Room.{HasRoomFor, HaveRoom, Held, IsBelowTop}
+use Rattle.sig_accounts.specs.declared.debt.Said.{Said}
+use Rattle.sig_accounts.specs.declared.debt.Said.TheVariants as said
+use Rattle.sig_accounts.specs.Owings.{Balance, Owing, owing_after, owing_heard, owing_in, room_in, stream_in}
+use Rattle.sig_ledger.specs.Books.{AreKept, Books, sum_in}
+use Rattle.sig_accounts.specs.Owings.{HasRoomFor, IsBelowTop}
+use Rattle.sig_ledger.specs.Room.{HaveRoom, Held}
 use Rattle.indexmap.specs.IndexMap.{get}
-use Rattle.sig_ledger.specs.Places.{IsIndex, with_first}
-use Rattle.sig_ledger.proofs.ChangeLemmas.{heard_all}
+use Rattle.sig_accounts.specs.Places.{IsIndex, with_first}
+use Rattle.sig_accounts.proofs.ChangeLemmas.{heard_all}
 use Rattle.sig_ledger.proofs.ChangedBooks.{books_in, may_publish}
-use Rattle.sig_ledger.proofs.FoundLemmas.{book_streams}
-use Rattle.sig_ledger.proofs.PlaceLemmas.{index_after}
+use Rattle.sig_accounts.proofs.FoundLemmas.{book_streams}
+use Rattle.sig_accounts.proofs.PlaceLemmas.{index_after}
 use Rattle.sig_ledger.proofs.RoomLemmas.{refilled, rooms_held, tops_below}
 use Rattle.sig_ledger.proofs.TakenBooks.{MayTake, taken, taken_kept, taken_sum}
 use Rattle.sig_ledger.proofs.ledger.Ledger.publish.Goals as goal

@@ -1,5 +1,5 @@
 use Rattle.std.proofs.Common.{◌≡◌, List, ◌++◌, length, take, drop, arith}
-use Rattle.sig_ledger.specs.Books.{Balance}
+use Rattle.sig_accounts.specs.Owings.{Balance}
 use Rattle.sig_ledger.proofs.RoomLemmas.{listed_room, none_listed, refilled}
 use Rattle.sig_ledger.proofs.ledger.Ledger.reserve_own.Goals as goal
 

@@ -2,9 +2,10 @@ use Rattle.std.proofs.Common.{◌≡◌, sym, subst, List, ◌++◌, map, length
 use Rattle.sig_history.specs.Facts.{is_told}
 use Rattle.sig_history.specs.Standings.{stream_in}
 use Rattle.sig_history.specs.Streams.{Stream}
-use Rattle.sig_ledger.specs.Books.{Balance, owing_in, room_in, standing_of}
-use Rattle.sig_ledger.specs.Room.{HasRoomFor, HaveRoom}
-use Rattle.sig_ledger.proofs.FoundLemmas.{book_streams}
+use Rattle.sig_accounts.specs.Owings.{Balance, owing_in, room_in, standing_of}
+use Rattle.sig_accounts.specs.Owings.{HasRoomFor}
+use Rattle.sig_ledger.specs.Room.{HaveRoom}
+use Rattle.sig_accounts.proofs.FoundLemmas.{book_streams}
 use Rattle.sig_ledger.proofs.RoomLemmas.{on_ok, refilled, room_holds}
 use Rattle.sig_ledger.proofs.ledger.Ledger.reserve_tokens.Goals as goal
 

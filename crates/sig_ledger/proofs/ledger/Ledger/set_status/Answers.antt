@@ -4,23 +4,24 @@ use Rattle.std.proofs.Math.ListN.{set}
 use Rattle.sig_terms.specs.declared.fact.Fact.{Fact}
 use Rattle.sig_history.specs.Owed.{sum_of}
 use Rattle.sig_history.specs.Sound.{Fits}
-use Rattle.sig_ledger.specs.Books.{Balance, Books, Owing, has_name, owing_in, sum_in}
+use Rattle.sig_accounts.specs.Owings.{Balance, Owing, has_name, owing_in}
+use Rattle.sig_ledger.specs.Books.{Books, sum_in}
 use Rattle.sig_ledger.specs.Room.{Held}
 use Rattle.std.proofs.Common.{Bool}
 use Rattle.sig_terms.specs.declared.fact.Fact.TheVariants.{StatusSet}
-use Rattle.sig_ledger.specs.declared.debt.Notice.{Notice}
-use Rattle.sig_ledger.specs.declared.debt.Said.TheVariants as said
+use Rattle.sig_accounts.specs.declared.debt.Notice.{Notice}
+use Rattle.sig_accounts.specs.declared.debt.Said.TheVariants as said
 use Rattle.std.specs.Prelude.{Option}
-use Rattle.sig_ledger.specs.Books.{notice_for, owing_noted, owing_set, room_in}
-use Rattle.sig_ledger.proofs.ChangeLemmas.{status_all}
+use Rattle.sig_accounts.specs.Owings.{notice_for, owing_noted, owing_set, room_in}
+use Rattle.sig_accounts.proofs.ChangeLemmas.{status_all}
 use Rattle.sig_ledger.proofs.ChangedBooks.{may_set}
 use Rattle.sig_history.specs.Streams.{is_named}
 use Rattle.sig_ledger.specs.Room.{HaveRoom}
 use Rattle.sig_ledger.proofs.ChangedBooks.{held_room}
 use Rattle.sig_ledger.proofs.RoomLemmas.{rooms_held}
-use Rattle.sig_ledger.proofs.ChangeLemmas.{room_at}
+use Rattle.sig_accounts.proofs.ChangeLemmas.{room_at}
 use Rattle.sig_ledger.proofs.RoomLemmas.{tops_below}
-use Rattle.sig_ledger.proofs.ChangeLemmas.{top_at}
+use Rattle.sig_accounts.proofs.ChangeLemmas.{top_at}
 use Rattle.sig_ledger.proofs.ChangedBooks.{IsChange, apt_by, books_in, change_here, change_kept, change_sum, place_within}
 use Rattle.sig_ledger.proofs.ledger.Ledger.set_status.Goals as goal
 

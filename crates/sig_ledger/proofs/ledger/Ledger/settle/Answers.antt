@@ -4,15 +4,16 @@ use Rattle.std.proofs.Math.ListN.{set}
 use Rattle.sig_terms.specs.declared.fact.Fact.{Fact}
 use Rattle.sig_history.specs.Owed.{sum_of}
 use Rattle.sig_history.specs.Sound.{Fits}
-use Rattle.sig_ledger.specs.Books.{Balance, Books, has_name, owing_in, sum_in}
+use Rattle.sig_accounts.specs.Owings.{Balance, has_name, owing_in}
+use Rattle.sig_ledger.specs.Books.{Books, sum_in}
 use Rattle.sig_ledger.specs.Room.{Held}
 use Rattle.std.specs.List.{list_any}
 use Rattle.std.specs.Prelude.{nat_eq}
 use Rattle.sig_terms.specs.declared.fact.Fact.TheVariants.{Settled}
 use Rattle.sig_terms.specs.declared.fact.SettledItem.{SettledItem}
-use Rattle.sig_ledger.specs.Books.{owing_settled}
-use Rattle.sig_ledger.specs.Room.{AreNumbers}
-use Rattle.sig_ledger.proofs.ChangeLemmas.{settled_all}
+use Rattle.sig_accounts.specs.Owings.{owing_settled}
+use Rattle.sig_accounts.specs.Owings.{AreNumbers}
+use Rattle.sig_accounts.proofs.ChangeLemmas.{settled_all}
 use Rattle.sig_ledger.proofs.ChangedBooks.{settled_stands}
 use Rattle.sig_ledger.proofs.ChangedBooks.{IsChange, books_in, change_here, change_kept, change_sum, nothing_said, place_within}
 use Rattle.sig_ledger.proofs.ledger.Ledger.settle.Goals as goal

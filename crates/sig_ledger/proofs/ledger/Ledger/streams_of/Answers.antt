@@ -1,9 +1,10 @@
 use Rattle.std.proofs.Common.{◌∙◌, ap, sym, List, map}
 use Rattle.sig_history.specs.Streams.{Stream, streams_of}
-use Rattle.sig_ledger.specs.Books.{Balance, owing_in, sum_in}
-use Rattle.sig_ledger.specs.Books as books
+use Rattle.sig_accounts.specs.Owings.{Balance, owing_in}
+use Rattle.sig_ledger.specs.Books.{sum_in}
+use Rattle.sig_accounts.specs.Owings as books
 use Rattle.sig_ledger.specs.Room.{Held}
-use Rattle.sig_ledger.proofs.FoundLemmas.{book_streams}
+use Rattle.sig_accounts.proofs.FoundLemmas.{book_streams}
 use Rattle.sig_ledger.proofs.ledger.Ledger.streams_of.Goals as goal
 
 pub returns : goal.returns

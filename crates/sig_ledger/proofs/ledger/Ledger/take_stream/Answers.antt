@@ -6,7 +6,8 @@ use Rattle.sig_history.specs.Sound.{Fits}
 use Rattle.sig_history.proofs.WholeLemmas.{fits_brings}
 use Rattle.sig_json.specs.declared.limits.TheConstants.{LAST_NUMBER}
 use Rattle.sig_terms.specs.declared.fact.Fact.TheVariants.{Created}
-use Rattle.sig_ledger.specs.Books.{AreKept, Balance, Books, Owing, opened, owing_in, put_owing, sum_in}
+use Rattle.sig_accounts.specs.Owings.{Balance, Owing, opened, owing_in, put_owing}
+use Rattle.sig_ledger.specs.Books.{AreKept, Books, sum_in}
 use Rattle.sig_ledger.specs.Room.{Held}
 use Rattle.sig_ledger.proofs.ChangedBooks.{books_in, nothing_said, put_owings, stream_for, with_stream, with_stream_is}
 use Rattle.sig_ledger.proofs.TakenBooks.{MayTake, taken_kept, taken_sum}
@@ -24,8 +25,8 @@ overflow_add-number c =
     let below : created_by (client_in c.args.conf.stream) c.self.inside.created.items < LAST_NUMBER = (fits_brings (sum_in b) (Created c.args.conf 0) fits).below in
     omega (arith, number)
 
-pub put-requires : goal.put-requires
-put-requires c =
+pub put_account-requires : goal.put_account-requires
+put_account-requires c =
     let some : 0 < c.args.self.now.room.streams = (c.requires.room 0).space.0 in
     omega (arith, some, ap (λ (h : Held). h.room.streams) c.self.view_is)
 
@@ -52,14 +53,14 @@ invariant_of-self c =
     let number : c.created_by-number.result ≡ created_by (client_in c.args.conf.stream) c.self.inside.created.items =
     c.created_by-number.ensures ∙ ap (created_by c.into_client-client.result) c.as_slice.ensures.value
     ∙ ap (λ (n : List ℕ). created_by n c.self.inside.created.items) name in
-    let put : map owing_in c.put.new.accounts.items ≡ put_owing (opened (stream_for b c.args.conf)) b.owings =
-    ap (map owing_in) c.put.ensures ∙ put_owings c.open-account.result c.self.inside.accounts.items
+    let put : map owing_in c.put_account.new.accounts.items ≡ put_owing (opened (stream_for b c.args.conf)) b.owings =
+    ap (map owing_in) c.put_account.ensures ∙ put_owings c.open-account.result c.self.inside.accounts.items
     ∙ ap (λ (a : Balance). put_owing a.owing b.owings) c.open-account.ensures
     ∙ ap (λ (k : ℕ). put_owing (opened (new_stream (client_in c.args.conf.stream) (k + 1) c.args.conf)) b.owings) number in
     let counted : c.count_one.new.created.items ≡ count_one (client_in c.args.conf.stream) c.self.inside.created.items =
     c.count_one.ensures ∙ ap (λ (n : List ℕ). count_one n c.self.inside.created.items) name in
     let with : List Owing → List Count → Books = λ os cs. record { store_id = c.self.inside.store_id; owings = os; created = cs; published = c.self.inside.published.items } in
-    let is : with (map owing_in c.put.new.accounts.items) c.count_one.new.created.items ≡ with_stream b c.args.conf =
+    let is : with (map owing_in c.put_account.new.accounts.items) c.count_one.new.created.items ≡ with_stream b c.args.conf =
     ap (λ l. with l c.count_one.new.created.items) put ∙ ap (with (put_owing (opened (stream_for b c.args.conf)) b.owings)) counted in
     let may : (time : ℕ) → MayTake b (Created c.args.conf time) nothing_said = λ time. record {
       kept = c.self.invariant.0;
@@ -76,14 +77,14 @@ returns c = λ time.
     let number : c.created_by-number.result ≡ created_by (client_in c.args.conf.stream) c.self.inside.created.items =
     c.created_by-number.ensures ∙ ap (created_by c.into_client-client.result) c.as_slice.ensures.value
     ∙ ap (λ (n : List ℕ). created_by n c.self.inside.created.items) name in
-    let put : map owing_in c.put.new.accounts.items ≡ put_owing (opened (stream_for b c.args.conf)) b.owings =
-    ap (map owing_in) c.put.ensures ∙ put_owings c.open-account.result c.self.inside.accounts.items
+    let put : map owing_in c.put_account.new.accounts.items ≡ put_owing (opened (stream_for b c.args.conf)) b.owings =
+    ap (map owing_in) c.put_account.ensures ∙ put_owings c.open-account.result c.self.inside.accounts.items
     ∙ ap (λ (a : Balance). put_owing a.owing b.owings) c.open-account.ensures
     ∙ ap (λ (k : ℕ). put_owing (opened (new_stream (client_in c.args.conf.stream) (k + 1) c.args.conf)) b.owings) number in
     let counted : c.count_one.new.created.items ≡ count_one (client_in c.args.conf.stream) c.self.inside.created.items =
     c.count_one.ensures ∙ ap (λ (n : List ℕ). count_one n c.self.inside.created.items) name in
     let with : List Owing → List Count → Books = λ os cs. record { store_id = c.self.inside.store_id; owings = os; created = cs; published = c.self.inside.published.items } in
-    let is : with (map owing_in c.put.new.accounts.items) c.count_one.new.created.items ≡ with_stream b c.args.conf =
+    let is : with (map owing_in c.put_account.new.accounts.items) c.count_one.new.created.items ≡ with_stream b c.args.conf =
     ap (λ l. with l c.count_one.new.created.items) put ∙ ap (with (put_owing (opened (stream_for b c.args.conf)) b.owings)) counted in
     let may : (time : ℕ) → MayTake b (Created c.args.conf time) nothing_said = λ time. record {
       kept = c.self.invariant.0;

@@ -4,12 +4,13 @@ use Rattle.std.proofs.Math.ListN.{set}
 use Rattle.sig_terms.specs.declared.fact.Fact.{Fact}
 use Rattle.sig_history.specs.Owed.{sum_of}
 use Rattle.sig_history.specs.Sound.{Fits}
-use Rattle.sig_ledger.specs.Books.{Balance, Books, Owing, has_name, owing_in, sum_in}
+use Rattle.sig_accounts.specs.Owings.{Balance, Owing, has_name, owing_in}
+use Rattle.sig_ledger.specs.Books.{Books, sum_in}
 use Rattle.sig_ledger.specs.Room.{Held}
 use Rattle.sig_terms.specs.declared.fact.Fact.TheVariants.{Unlisted}
 use Rattle.sig_history.specs.Streams.{list_removed, with_listed}
-use Rattle.sig_ledger.specs.Books.{owing_with}
-use Rattle.sig_ledger.proofs.ChangeLemmas.{unlisted_all}
+use Rattle.sig_accounts.specs.Owings.{owing_with}
+use Rattle.sig_accounts.proofs.ChangeLemmas.{unlisted_all}
 use Rattle.sig_ledger.proofs.ChangedBooks.{IsChange, apt_by, books_in, change_here, change_kept, change_sum, nothing_said, place_within}
 use Rattle.sig_ledger.proofs.ledger.Ledger.unlist.Goals as goal
 

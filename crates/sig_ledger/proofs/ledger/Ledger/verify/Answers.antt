@@ -4,20 +4,21 @@ use Rattle.std.proofs.Math.ListN.{set}
 use Rattle.sig_terms.specs.declared.fact.Fact.{Fact}
 use Rattle.sig_history.specs.Owed.{sum_of}
 use Rattle.sig_history.specs.Sound.{Fits}
-use Rattle.sig_ledger.specs.Books.{Balance, Books, has_name, owing_in, sum_in}
+use Rattle.sig_accounts.specs.Owings.{Balance, has_name, owing_in}
+use Rattle.sig_ledger.specs.Books.{Books, sum_in}
 use Rattle.sig_ledger.specs.Room.{Held}
 use Rattle.sig_terms.specs.declared.fact.Fact.TheVariants.{Asked}
-use Rattle.sig_ledger.specs.declared.debt.Said.TheVariants as said
-use Rattle.sig_ledger.specs.Books.{owing_asked, room_in}
-use Rattle.sig_ledger.proofs.ChangeLemmas.{asked_all}
+use Rattle.sig_accounts.specs.declared.debt.Said.TheVariants as said
+use Rattle.sig_accounts.specs.Owings.{owing_asked, room_in}
+use Rattle.sig_accounts.proofs.ChangeLemmas.{asked_all}
 use Rattle.sig_ledger.proofs.ChangedBooks.{may_ask}
 use Rattle.sig_history.specs.Streams.{is_named}
 use Rattle.sig_ledger.specs.Room.{HaveRoom}
 use Rattle.sig_ledger.proofs.ChangedBooks.{held_room}
 use Rattle.sig_ledger.proofs.RoomLemmas.{rooms_held}
-use Rattle.sig_ledger.proofs.ChangeLemmas.{room_at}
+use Rattle.sig_accounts.proofs.ChangeLemmas.{room_at}
 use Rattle.sig_ledger.proofs.RoomLemmas.{tops_below}
-use Rattle.sig_ledger.proofs.ChangeLemmas.{top_at}
+use Rattle.sig_accounts.proofs.ChangeLemmas.{top_at}
 use Rattle.sig_ledger.proofs.ChangedBooks.{IsChange, apt_by, books_in, change_here, change_kept, change_sum, place_within}
 use Rattle.sig_ledger.proofs.ledger.Ledger.verify.Goals as goal
 

@@ -1,0 +1,42 @@
+-- How streams that are held in memory change.
+use Rattle.std.proofs.Common.{◌≡◌, ◌∙◌, ap, sym, ℕ, ◌+◌, ◌<◌, List, ◌++◌, length, map, filter, take, drop, get_or, not, Bool, arith}
+use Rattle.std.proofs.lemmas.List.{map-set, length-map}
+use Rattle.std.proofs.Math.ListN.{set, get_or-map}
+use Rattle.std.proofs.lemmas.List.Edits.{map_over_more}
+use Rattle.sig_subject.specs.declared.subject.Subject.{Subject}
+use Rattle.sig_history.specs.Streams.{Stream, list_removed, with_listed}
+use Rattle.sig_accounts.specs.declared.debt.Debt.{Debt}
+use Rattle.sig_accounts.specs.Owings.{Owing, Balance, owing_in, owing_settled, owing_with}
+
+abbrev pub balance_of : Stream → List Debt → ℕ → ℕ → Balance
+balance_of s owed room subjects = record { owing = record { stream = s; owed = owed }; room = room; subjects = subjects }
+
+abbrev owing_of : Stream → List Debt → Owing
+owing_of s owed = record { stream = s; owed = owed }
+
+pub settled_once : (is_settled : ℕ → Bool) (b : Balance) (s : Stream) (owed left : List Debt) (room subjects : ℕ)
+    → balance_of s owed room subjects ≡ b
+    → left ≡ filter (λ (d : Debt). not (is_settled d.number)) owed → owing_of s left ≡ owing_settled is_settled b.owing
+settled_once is_settled b s owed left room subjects is l =
+    ap (owing_of s) l ∙ ap (λ (c : Balance). owing_settled is_settled c.owing) is
+
+pub unlisted_once : (subject : Subject) (b : Balance) (s : Stream) (owed : List Debt) (left : List Subject) (room subjects : ℕ)
+    → balance_of s owed room subjects ≡ b → left ≡ list_removed subject s.listed
+    → owing_with (with_listed left s) (record { stream = s; owed = owed })
+    ≡ owing_with (with_listed (list_removed subject b.owing.stream.listed) b.owing.stream) b.owing
+unlisted_once subject b s owed left room subjects is l =
+    ap (λ (ls : List Subject). owing_with (with_listed ls s) (record { stream = s; owed = owed })) l
+    ∙ ap (λ (c : Balance). owing_with (with_listed (list_removed subject c.owing.stream.listed) c.owing.stream) c.owing) is
+
+-- a loop that changes what each stream owes
+pub over_more : (f : Owing → Owing) (old now : List Balance) (i : ℕ) (r new : Balance) → i < length old
+    → map owing_in now ≡ map f (take i (map owing_in old)) ++ drop i (map owing_in old)
+    → r ≡ get_or now i r → new.owing ≡ f (get_or now i r).owing
+    → map owing_in (set now i new) ≡ map f (take (i + 1) (map owing_in old)) ++ drop (i + 1) (map owing_in old)
+over_more f old now i r new within so_far read is =
+    let x : Balance = get_or now i r in
+    let same : x.owing ≡ get_or (map owing_in now) i x.owing =
+    ap owing_in (ap (get_or now i) read) ∙ sym (get_or-map owing_in now i x) in
+    map-set owing_in now i new
+    ∙ ap (set (map owing_in now) i) is
+    ∙ map_over_more f (map owing_in old) (map owing_in now) i x.owing (omega (arith, length-map old owing_in)) so_far same

@@ -1,0 +1,11 @@
+pub mod TextLemmas
+pub mod BalanceLemmas
+pub mod CountLemmas
+pub mod NameLemmas
+pub mod PlaceLemmas
+pub mod FoundLemmas
+pub mod IssuedLemmas
+pub mod StandingLemmas
+pub mod ChangeLemmas
+pub mod SettleLemmas
+pub mod SameLemmas

@@ -1,0 +1,347 @@
+//! A stream as it is held in memory.
+
+ghost use Rattle.std.specs.Prelude.{◌≡◌, ◌↔◌, ◌+◌, ◌<◌, ◌≤◌, ◌^◌, IfOk, IsTrue, OnOk, is_some, nat_eq, true};
+ghost use Rattle.std.specs.List.{list_any};
+ghost use Rattle.indexmap.specs.IndexSet.{contains};
+ghost use Rattle.sig_subject.specs.Matching.{is_identical};
+ghost use Rattle.sig_history.specs.Facts as facts;
+ghost use Rattle.sig_history.specs.Streams as streams;
+
+use crate::copying::copy_list;
+use crate::debt::{Debt, Notice, Said};
+use crate::names::client_in;
+use indexmap::IndexSet;
+use sig_event::{News, Status};
+use sig_json::{Items, Memory, Same, Text, copy_optional, same_slices};
+use sig_subject::{Subject, identical};
+use sig_terms::{Delivery, Fact, StreamConf, delivers, fits_listed};
+use std::alloc::Global;
+use std::marker::Model;
+
+/// A stream that stands, with the tokens that it owes. Contracts see it as its stream, what it owes in small, and the numbers
+/// of further tokens and of further subjects for which there is room.
+#[derive(Debug, Drop)]
+pub struct Account {
+    number: u64,
+    conf: StreamConf,
+    status: Status,
+    reason: Option<Text>,
+    listed: Vec<Subject>,
+    asked: Option<u64>,
+    made: u64,
+    owed: Vec<Debt>,
+}
+
+impl Model for Account {
+    ghost use Rattle.std.specs.Prelude.{◌-◌, vec_len, vec_capacity};
+    ghost use Rattle.sig_history.specs.Streams.{client_in};
+    ghost use Rattle.sig_accounts.specs.Owings.{Balance};
+
+    ghost Value = { Balance };
+
+    ghost view = { λ a. record {
+      owing = record {
+        stream = record {
+          client = client_in a.conf.stream;
+          number = a.number;
+          conf = a.conf;
+          status = a.status;
+          reason = a.reason;
+          listed = a.listed.items;
+          asked = a.asked;
+          made = a.made;
+        };
+        owed = a.owed.items;
+      };
+      room = vec_capacity a.owed - vec_len a.owed;
+      subjects = vec_capacity a.listed - vec_len a.listed;
+    } };
+}
+
+impl Account {
+    ghost use Rattle.sig_accounts.specs.Owings.{Balance, opened_balance, owing_asked, owing_heard, owing_noted, owing_set, owing_settled, owing_told, owing_with, room_in, subjects_in};
+    ghost use Rattle.sig_accounts.specs.Owings.{HasRoomFor};
+
+    /// A new stream: it is enabled, has nobody on its list, and no token was made for it. It takes no memory.
+    pub fn open(alloc: Global, number: u64, conf: StreamConf) -> Account
+        ensures { result ≡ opened_balance (facts.new_stream (streams.client_in conf.stream) number conf) }
+    {
+        Account {
+            number,
+            conf,
+            status: Status::Enabled,
+            reason: None,
+            listed: Vec::new(alloc),
+            asked: None,
+            made: 0,
+            owed: Vec::new(alloc),
+        }
+    }
+
+    /// An equal stream that owes the same.
+    pub fn copy(&self, alloc: Global) -> Result<Account, Memory>
+        ensures { IfOk result (λ a. a.owing ≡ self.now.owing) }
+    {
+        Ok(Account {
+            number: self.number,
+            conf: self.conf.copy(alloc)?,
+            status: self.status,
+            reason: copy_optional(alloc, &self.reason)?,
+            listed: copy_list(alloc, self.listed.as_slice())?,
+            asked: self.asked,
+            made: self.made,
+            owed: copy_list(alloc, self.owed.as_slice())?,
+        })
+    }
+
+    /// Whether both are one stream, whatever they owe.
+    pub fn same_stream(&self, other: &Account) -> bool
+        ensures { IsTrue result ↔ (self.now.owing.stream ≡ other.now.owing.stream) }
+    {
+        self.number == other.number
+            && self.conf.same(&other.conf)
+            && self.status.same(&other.status)
+            && self.reason.same(&other.reason)
+            && same_slices(self.listed.as_slice(), other.listed.as_slice())
+            && self.asked.same(&other.asked)
+            && self.made == other.made
+    }
+
+    /// Its configuration.
+    pub fn conf(&self) -> &StreamConf
+        ensures { result.now ≡ self.now.owing.stream.conf }
+    {
+        &self.conf
+    }
+
+    /// Its client's name: what stands before the first hyphen of its own.
+    pub fn client(&self) -> &str
+        ensures { result.now ≡ self.now.owing.stream.client }
+    {
+        client_in(self.conf.stream.as_str())
+    }
+
+    /// Its status (Shared Signals Framework 1.0, section 8.1.2).
+    pub fn status(&self) -> Status
+        ensures { result ≡ self.now.owing.stream.status }
+    {
+        self.status
+    }
+
+    /// Why its status was set.
+    pub fn reason(&self) -> &Option<Text>
+        ensures { result.now ≡ self.now.owing.stream.reason }
+    {
+        &self.reason
+    }
+
+    /// The subjects on its list, in the order in which they were put there.
+    pub fn listed(&self) -> &[Subject]
+        ensures { result.now ≡ self.now.owing.stream.listed }
+    {
+        self.listed.as_slice()
+    }
+
+    /// When a verification was last asked for, in seconds since 1970.
+    pub fn asked(&self) -> Option<u64>
+        ensures { result ≡ self.now.owing.stream.asked }
+    {
+        self.asked
+    }
+
+    /// How many tokens were made for it.
+    pub fn made(&self) -> u64
+        ensures { result ≡ self.now.owing.stream.made }
+    {
+        self.made
+    }
+
+    /// What it owes, in order of number.
+    pub fn owed(&self) -> &[Debt]
+        ensures { result.now ≡ self.now.owing.owed }
+    {
+        self.owed.as_slice()
+    }
+
+    /// Whether it has this name.
+    pub fn is_named(&self, name: &str) -> bool
+        ensures { result ≡ streams.is_named name.now self.now.owing.stream }
+    {
+        self.conf.stream.as_str() == name
+    }
+
+    /// Whether it stands before another one: by its client's name, and then by its number.
+    pub fn is_before(&self, other: &Account) -> bool
+        ensures { result ≡ streams.is_before self.now.owing.stream other.now.owing.stream }
+    {
+        let client = self.client();
+        let other_client = other.client();
+        client < other_client || (client == other_client && self.number < other.number)
+    }
+
+    /// Whether news are due on it: it isn't disabled, and has the event and the subject (Shared Signals Framework 1.0,
+    /// sections 7, 8.1.1 and 8.1.2).
+    pub fn is_due(&self, news: &News) -> bool
+        ensures { result ≡ streams.is_due news.now self.now.owing.stream }
+    {
+        !is_disabled(self.status)
+            && delivers(&self.conf, news.event.uri())
+            && fits_listed(self.conf.defaults, self.listed.as_slice(), &news.subject)
+    }
+
+    /// Whether a fact tells it something, by one more token.
+    pub fn is_told(&self, fact: &Fact) -> bool
+        ensures { result ≡ facts.is_told fact.now self.now.owing.stream }
+    {
+        match fact {
+            Fact::StatusSet {
+                stream,
+                operator,
+                ..
+            } => *operator && self.is_named(stream.as_str()),
+            Fact::Published { news, .. } => self.is_due(news),
+            Fact::Asked { stream, .. } => self.is_named(stream.as_str()),
+            _ => false,
+        }
+    }
+
+    /// Whether a subject that is identical to this one is on its list.
+    pub fn is_listed(&self, subject: &Subject) -> bool
+        ensures { result ≡ list_any (is_identical subject.now) self.now.owing.stream.listed }
+    {
+        for other in self.listed.as_slice() {
+            if identical(subject, other) {
+                return true;
+            }
+        }
+        false
+    }
+
+    /// Room for one more token, where a fact tells it something.
+    pub fn reserve_token(&mut self, fact: &Fact) -> Result<(), Memory>
+        ensures same { self.new.owing ≡ self.old.owing }
+        ensures ok { OnOk result (HasRoomFor (facts.is_told fact.now) room_in self.new) }
+    {
+        if self.is_told(fact) {
+            self.owed.reserve(1)?;
+        }
+        Ok(())
+    }
+
+    /// Room for one more subject on its list, where it has this name.
+    pub fn reserve_subject(&mut self, name: &str) -> Result<(), Memory>
+        ensures same { self.new.owing ≡ self.old.owing }
+        ensures ok { OnOk result (HasRoomFor (streams.is_named name.now) subjects_in self.new) }
+    {
+        if self.is_named(name) {
+            self.listed.reserve(1)?;
+        }
+        Ok(())
+    }
+
+    /// Makes a token. It takes no memory.
+    pub fn tell(&mut self, time: u64, said: Said)
+        requires room { 0 < self.old.room }
+        requires number { self.old.owing.stream.made + 1 < 2 ^ 64 }
+        ensures { self.new.owing ≡ owing_told time said self.old.owing }
+    {
+        self.made += 1;
+        let number = self.made;
+        // There is room, so the push keeps the debt.
+        let _ = self.owed.push(Debt { number, time, said });
+    }
+
+    /// Makes a token, where the publication at a place is due on it. It takes no memory.
+    pub fn hear(&mut self, news: &News, time: u64, place: usize)
+        requires room { HasRoomFor (streams.is_due news.now) room_in self.old }
+        requires number { self.old.owing.stream.made + 1 < 2 ^ 64 }
+        ensures { self.new.owing ≡ owing_heard news.now time place self.old.owing }
+    {
+        if self.is_due(news) {
+            self.tell(time, Said::Published { place });
+        }
+    }
+
+    /// Sets what a receiver may set of its configuration. It takes no memory.
+    pub fn configure(
+        &mut self,
+        requested: Option<Items<Text>>,
+        delivery: Delivery,
+        description: Option<Text>,
+    )
+        ensures { self.new.owing ≡ owing_with (streams.with_conf (facts.configured requested delivery description self.old.owing.stream.conf) self.old.owing.stream) self.old.owing }
+    {
+        self.conf.requested = requested;
+        self.conf.delivery = delivery;
+        self.conf.description = description;
+    }
+
+    // Sets its status, and why. Where that disables it, it owes nothing any more.
+    fn set_status(&mut self, status: Status, reason: Option<Text>)
+        ensures owing { self.new.owing ≡ owing_set status reason self.old.owing }
+        ensures room { self.old.room ≤ self.new.room }
+    {
+        self.status = status;
+        self.reason = reason;
+        if is_disabled(status) {
+            self.owed.clear();
+        }
+    }
+
+    /// Sets its status, and why, and makes a token where there is a notice. It takes no memory.
+    pub fn note_status(&mut self, status: Status, reason: Option<Text>, notice: Option<Notice>)
+        requires room { is_some notice ≡ true → 0 < self.old.room }
+        requires number { self.old.owing.stream.made + 1 < 2 ^ 64 }
+        ensures { self.new.owing ≡ owing_noted notice (owing_set status reason self.old.owing) }
+    {
+        self.set_status(status, reason);
+        if let Some(notice) = notice {
+            self.tell(notice.time, notice.said);
+        }
+    }
+
+    /// Puts a subject at the end of its list, unless an identical one is there. It takes no memory.
+    pub fn list(&mut self, subject: Subject)
+        requires { 0 < self.old.subjects }
+        ensures { self.new.owing ≡ owing_with (streams.with_listed (streams.list_added subject self.old.owing.stream.listed) self.old.owing.stream) self.old.owing }
+    {
+        if !self.is_listed(&subject) {
+            // There is room, so the push keeps the subject.
+            let _ = self.listed.push(subject);
+        }
+    }
+
+    /// Takes a subject off its list. It takes no memory.
+    pub fn unlist(&mut self, subject: &Subject)
+        ensures { self.new.owing ≡ owing_with (streams.with_listed (streams.list_removed subject.now self.old.owing.stream.listed) self.old.owing.stream) self.old.owing }
+    {
+        self.listed.retain(|other| !identical(subject, other));
+    }
+
+    /// Takes off the tokens of these numbers. It takes no memory.
+    pub fn settle(&mut self, numbers: &IndexSet<u64>)
+        ensures { self.new.owing ≡ owing_settled (contains nat_eq numbers.now) self.old.owing }
+    {
+        self.owed.retain(|debt| !numbers.contains(&debt.number));
+    }
+
+    /// Notes when a verification was asked for, and makes its token. It takes no memory.
+    pub fn verify(&mut self, state: Option<Text>, time: u64)
+        requires room { 0 < self.old.room }
+        requires number { self.old.owing.stream.made + 1 < 2 ^ 64 }
+        ensures { self.new.owing ≡ owing_asked state time self.old.owing }
+    {
+        self.asked = Some(time);
+        self.tell(time, Said::Verified { state });
+    }
+}
+
+// Whether a stream of this status makes no tokens of what is published.
+fn is_disabled(status: Status) -> bool
+    ensures { result ≡ streams.is_disabled status }
+{
+    match status {
+        Status::Enabled | Status::Paused => false,
+        Status::Disabled => true,
+    }
+}

@@ -1,0 +1,34 @@
+//! Streams as a transmitter holds them in memory, with what each owes, and what it keeps of publications and counts.
+//!
+//! It stands on `sig_history` for what streams and facts are. An `Account` is seen as its stream, what it owes in small, and the
+//! room that it holds; `specs/Owings` says what a fact leaves of it, and which tokens its debts are.
+//!
+//! Promised: each change of a stream is that of the history; it keeps its debts in order; a change takes no memory where its
+//! room was reserved, and reserving changes no stream; streams are the same exactly where their tokens say the same. Left
+//! out: which changes a fact makes of all streams, which `sig_ledger` says.
+#![tactic(auto)]
+
+mod account;
+mod accounts;
+mod copying;
+mod counted;
+mod counts;
+mod debt;
+mod names;
+mod places;
+mod publication;
+mod sameness;
+
+pub use account::Account;
+pub use accounts::{
+    account_named, client_account, hear_all, issued_on, name_at, place_named, put_account,
+    reserve_subjects, reserve_tokens, streams_of,
+};
+pub use copying::{copy_accounts, copy_list};
+pub use counted::Counted;
+pub use counts::{count_one, created_by};
+pub use debt::{Debt, Notice, Said};
+pub use names::{client_in, jti_text, stream_name};
+pub use places::{enter_place, place_of, places_of, reserve_place};
+pub use publication::{Publication, publication_at};
+pub use sameness::same_accounts;

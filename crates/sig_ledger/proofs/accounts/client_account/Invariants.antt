@@ -1,7 +1,0 @@
-use Rattle.std.proofs.Common.{◌≡◌, drop, map}
-use Rattle.sig_ledger.specs.Books.{client_owing, owing_in}
-use Rattle.sig_ledger.proofs.accounts.client_account.Given as goal
-
-abbrev pub invariant-loop-account : goal.invariant-loop-account
-invariant-loop-account l =
-    client_owing l.client l.name (map owing_in l.accounts) ≡ client_owing l.client l.name (map owing_in (drop l.account-index l.accounts))

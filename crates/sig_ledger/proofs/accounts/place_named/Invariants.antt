@@ -1,8 +1,0 @@
-use Rattle.std.proofs.Common.{◌≡◌, ◌+◌, drop}
-use Rattle.std.specs.List.{position_or_len}
-use Rattle.sig_ledger.specs.Books.{has_name}
-use Rattle.sig_ledger.proofs.accounts.place_named.Given as goal
-
-abbrev pub invariant-loop-index : goal.invariant-loop-index
-invariant-loop-index l =
-    position_or_len (has_name l.name) l.accounts ≡ l.index + position_or_len (has_name l.name) (drop l.index l.accounts)
