@@ -1,15 +1,14 @@
 -- Tokens on several streams, and the streams that the books hold.
-use Rattle.std.proofs.Common.{◌≡◌, ◌∙◌, ap, sym, subst, ℕ, ◌+◌, ◌<◌, List, [], ◌∷◌, ◌++◌, length, map, take, get_or, max, Bool, true, false, ◌&&◌, ◌||◌, nat_lt, Option, None, Some, if◌then◌else◌, refl, append_assoc, arith}
-use Rattle.std.specs.Prelude.{All, flat_map}
+use Rattle.std.proofs.Common.{◌≡◌, ◌∙◌, ap, sym, subst, ℕ, ◌+◌, List, [], ◌∷◌, ◌++◌, map, Bool, true, false, ◌&&◌, ◌||◌, nat_lt, Option, None, Some, if◌then◌else◌, refl}
+use Rattle.std.specs.Prelude.{All}
 use Rattle.std.specs.List.{list_any}
-use Rattle.std.proofs.lemmas.List.{map-append, take_more}
 use Rattle.std.proofs.lemmas.List.Elements.{All-cons, All-nil}
 use Rattle.std.proofs.lemmas.List.Folds.{list_any-append}
 use Rattle.sig_json.specs.declared.limits.TheConstants.{LAST_NUMBER}
 use Rattle.sig_event.specs.declared.news.News.{News}
 use Rattle.sig_terms.specs.declared.fact.Fact.{Fact}
 use Rattle.sig_terms.specs.declared.fact.Fact.TheVariants.{Created, Configured, StatusSet, Listed, Unlisted, Deleted, Published, Settled, Asked}
-use Rattle.sig_history.specs.Streams.{Stream, Count, Made, Publication, is_due, is_named}
+use Rattle.sig_history.specs.Streams.{Stream, Count, Publication, is_due, is_named}
 use Rattle.sig_history.specs.Facts.{is_told, made_by, said_by, time_of, token_by, token_for}
 use Rattle.sig_history.specs.Sound.{is_past, largest}
 use Rattle.sig_history.specs.Standings.{owed_in_standing, stream_in}
@@ -18,28 +17,7 @@ use Rattle.sig_accounts.specs.Owings.{Balance, owing_in, standing_of}
 use Rattle.sig_ledger.specs.Books.{AreKept, Books, sum_in}
 use Rattle.sig_making.specs.Tokens.{IsNumbered, is_full, stream_of, tokens_on}
 
--- ---- the largest payload
-
-flat_join : {X Y : Type 0} (f : X → List Y) (xs ys : List X) → flat_map f (xs ++ ys) ≡ flat_map f xs ++ flat_map f ys
-flat_join f [] ys = refl
-flat_join f (x ∷ xs) ys = ap (λ l. f x ++ l) (flat_join f xs ys) ∙ sym (append_assoc (f x) (flat_map f xs) (flat_map f ys))
-
-largest_join : (xs ys : List Made) → largest (xs ++ ys) ≡ max (largest xs) (largest ys)
-largest_join [] ys = omega arith
-largest_join (x ∷ xs) ys = let rest : largest (xs ++ ys) ≡ max (largest xs) (largest ys) = largest_join xs ys in omega arith
-
-one_on : (sid : List ℕ) (f : Fact) (s : Stream) → largest (tokens_on sid f (s ∷ [])) ≡ largest (token_for sid f s)
-one_on sid f s = largest_join (token_for sid f s) [] ∙ omega arith
-
-pub largest_more : (sid : List ℕ) (f : Fact) (bs : List Balance) (i : ℕ) (d : Balance) → i < length bs
-    → largest (tokens_on sid f (map stream_of (take (i + 1) bs)))
-    ≡ max (largest (tokens_on sid f (map stream_of (take i bs)))) (largest (token_for sid f (get_or bs i d).owing.stream))
-largest_more sid f bs i d within =
-    ap (λ (l : List Balance). largest (tokens_on sid f (map stream_of l))) (take_more bs i d within)
-    ∙ ap (λ (l : List Stream). largest (tokens_on sid f l)) (map-append stream_of (take i bs) (get_or bs i d ∷ []))
-    ∙ ap largest (flat_join (token_for sid f) (map stream_of (take i bs)) (stream_of (get_or bs i d) ∷ []))
-    ∙ largest_join (tokens_on sid f (map stream_of (take i bs))) (tokens_on sid f (stream_of (get_or bs i d) ∷ []))
-    ∙ ap (max (largest (tokens_on sid f (map stream_of (take i bs))))) (one_on sid f (stream_of (get_or bs i d)))
+-- ---- facts that tell nothing
 
 -- a fact that tells nothing makes nothing
 pub silent_size : (sid : List ℕ) (f : Fact) (ss : List Stream) → said_by f ≡ None → 0 ≡ largest (tokens_on sid f ss)

@@ -5,6 +5,7 @@ ghost use Rattle.std.specs.List.{list_any};
 ghost use Rattle.sig_json.specs.Answers.{Answers, result_map};
 ghost use Rattle.sig_json.specs.declared.limits.TheConstants.{PAYLOAD_BYTES};
 ghost use Rattle.sig_history.specs.Facts.{made_by};
+ghost use Rattle.sig_history.specs.Sound as sound;
 ghost use Rattle.sig_history.specs.Sound.{is_past};
 ghost use Rattle.sig_calls.specs.Told.{making, outcome};
 ghost use Rattle.sig_ledger.specs.Books.{sum_in};
@@ -13,6 +14,7 @@ ghost use Rattle.sig_ledger.specs.Steps.{reply_in};
 ghost use Rattle.sig_making.specs.Tokens.{is_full, stream_of};
 
 use crate::payloads::largest_payload;
+use sig_json::Memory;
 use sig_json::limits::{LAST_NUMBER, PAYLOAD_BYTES};
 use sig_ledger::{Account, Ledger, Step};
 use sig_terms::{Answer, Fact, PrepareFault};
@@ -41,6 +43,14 @@ fn is_long(size: usize) -> bool
     ensures { result ≡ nat_lt PAYLOAD_BYTES size }
 {
     size > PAYLOAD_BYTES
+}
+
+/// Whether the tokens that a fact would make may be made: none has a payload of more than 6,000 bytes or a number above 2^62.
+pub fn may_be_made(ledger: &Ledger, fact: &Fact) -> Result<bool, Memory>
+    ensures { IfOk result (λ b. b ≡ sound.may_be_made (made_by (sum_in ledger.now.books).parts fact.now)) }
+{
+    let size = largest_payload(ledger, fact)?;
+    Ok(!goes_past(ledger, fact) && !is_long(size))
 }
 
 /// How a call is answered whose fact makes tokens: by `Long` where one of them would have a payload of more than 6,000 bytes,

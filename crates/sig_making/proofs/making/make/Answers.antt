@@ -1,4 +1,4 @@
-use Rattle.std.proofs.Common.{◌≡◌, ◌∙◌, ap, sym, Ok, inr}
+use Rattle.std.proofs.Common.{◌∙◌, ap, sym, Ok, inr}
 use Rattle.sig_terms.specs.declared.answer.Answer.TheVariants.{Long}
 use Rattle.sig_history.specs.Facts.{made_by}
 use Rattle.sig_ledger.specs.Books.{sum_in}
