@@ -1,0 +1,5 @@
+pub mod Facts
+pub mod Laws
+pub mod Parts
+pub mod Proper
+pub mod Tokens
