@@ -94,9 +94,9 @@ late_spells stream iss aud requested bytes c rest are h =
       proper_number = b.proper;
       proper_description = e.proper;
       spelt =
-        spelled_4 bytes (parts.delivery_bytes a.value) a.mid (kinds.number_bytes b.value) b.mid (parts.defaults_bytes d.value) d.mid (kinds.maybe_bytes kinds.text_bytes e.value) e.mid
-        a.spelt b.spelt d.spelt e.spelt
-        ∙ ap (λ (l : List ℕ). (((parts.delivery_bytes a.value ++ kinds.number_bytes b.value) ++ parts.defaults_bytes d.value) ++ kinds.maybe_bytes kinds.text_bytes e.value) ++ l) s.1;
+          spelled_4 bytes (parts.delivery_bytes a.value) a.mid (kinds.number_bytes b.value) b.mid (parts.defaults_bytes d.value) d.mid (kinds.maybe_bytes kinds.text_bytes e.value) e.mid
+          a.spelt b.spelt d.spelt e.spelt
+          ∙ ap (λ (l : List ℕ). (((parts.delivery_bytes a.value ++ kinds.number_bytes b.value) ++ parts.defaults_bytes d.value) ++ kinds.maybe_bytes kinds.text_bytes e.value) ++ l) s.1;
     }
 
 conf_told : (stream iss : List ℕ) (aud : List (List ℕ)) (requested : Option (List (List ℕ))) (bytes mid : List ℕ) (c : StreamConf) (rest : List ℕ)
@@ -112,12 +112,11 @@ conf_told stream iss aud requested bytes mid c rest one two three four spelt t =
       delivery = t.proper_way;
       interval = t.proper_number;
       description = t.proper_description;
-    } in
-    (
+    } in (
       subst IsProperConf t.is proper,
       spelled_after bytes (((kinds.text_bytes stream ++ kinds.text_bytes iss) ++ kinds.list_bytes kinds.text_bytes aud) ++ kinds.maybe_bytes (kinds.list_bytes kinds.text_bytes) requested) mid
-      (parts.delivery_bytes t.way) (kinds.number_bytes t.number) (parts.defaults_bytes t.subjects) (kinds.maybe_bytes kinds.text_bytes t.description) rest spelt t.spelt
-      ∙ ap (λ x. parts.conf_bytes x ++ rest) t.is,
+          (parts.delivery_bytes t.way) (kinds.number_bytes t.number) (parts.defaults_bytes t.subjects) (kinds.maybe_bytes kinds.text_bytes t.description) rest spelt t.spelt
+          ∙ ap (λ x. parts.conf_bytes x ++ rest) t.is,
     )
 
 conf_spells : (bytes : List ℕ) (c : StreamConf) (rest : List ℕ) → AreBytes bytes → parts.configuration bytes ≡ Ok (c, rest) → IsProperConf c × (bytes ≡ parts.conf_bytes c ++ rest)
