@@ -1,6 +1,8 @@
 //! Each public call that may want memory, once. The tokens are those of an independent signer, by Python's hmac, base64 and
 //! json; bodies that are read stand in `tools/cases/delivery.txt`.
 
+ghost use Rattle.std.specs.Prelude.{IfOk, IsSome};
+
 use crate::{
     Outcome, PollAsk, Reported, Token, coded, outcome_of, push_request, read_ask, read_sets,
     write_ask, write_sets,
@@ -38,8 +40,10 @@ fn endpoint(alloc: Global) -> Result<Endpoint, Memory> {
     })
 }
 
-// The token with the claims of this text.
-fn token(alloc: Global, text: &str, number: u64) -> Result<Token, ClaimsFault> {
+// The token with the claims of this text, to be pushed.
+fn token(alloc: Global, text: &str, number: u64) -> Result<Token, ClaimsFault>
+    ensures { IfOk result (λ token. IsSome token.endpoint) }
+{
     Ok(Token {
         stream: Text::of(alloc, "acme-1")?,
         number,
