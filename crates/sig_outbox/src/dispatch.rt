@@ -6,6 +6,7 @@ ghost use Rattle.sig_calls.specs.Table.{prepared_of};
 ghost use Rattle.sig_ledger.specs.Books.{sum_in};
 ghost use Rattle.sig_ledger.specs.Room.{HasRoom};
 ghost use Rattle.sig_ledger.specs.Steps.{reply_in};
+ghost use Rattle.sig_outbox.specs.Kinds.{Configuring, Steering, Telling, kind_of};
 
 use sig_ledger::{Ledger, Step};
 use sig_stream_calls::{
@@ -28,6 +29,38 @@ pub(crate) fn dispatch(
 {
     match call {
         Call::Metadata => Ok(Step::only(Answer::Meta)),
+        Call::Create { .. }
+        | Call::ReadAll { .. }
+        | Call::Read { .. }
+        | Call::Patch { .. }
+        | Call::Put { .. }
+        | Call::Delete { .. } => configure(ledger, rules, call, now),
+        Call::GetStatus { .. } | Call::SetStatus { .. } | Call::Add { .. } | Call::Remove { .. } =>
+            steer(ledger, call, now),
+        Call::Verify { .. }
+        | Call::Poll { .. }
+        | Call::Publish { .. }
+        | Call::OperatorStatus { .. }
+        | Call::Deliver { .. }
+        | Call::Hand { .. }
+        | Call::Settle { .. } => tell(ledger, call, now),
+    }
+}
+
+// How a call about a stream's configuration is answered.
+#[tactic(auto, unfolding(sig_calls::specs::Table::told_of))]
+fn configure(
+    ledger: &mut Ledger,
+    rules: &Rules,
+    call: &Call,
+    now: u64,
+) -> Result<Step, PrepareFault>
+    requires { kind_of call.now ≡ Configuring }
+    ensures keeps { ledger.new.books ≡ ledger.old.books }
+    ensures answers { Answers PrepareFault.Memory (result_map reply_in result) (prepared_of rules.now (sum_in ledger.old.books) call.now now) }
+    ensures room { IfOk result (λ step. IfSome step.change (HasRoom (sum_in ledger.new.books).parts ledger.new.room)) }
+{
+    match call {
         Call::Create { client, want } => create(ledger, rules, client, want, now),
         Call::ReadAll { client } => read_all(ledger, client),
         Call::Read { client, stream } => read(ledger, client, stream),
@@ -42,6 +75,19 @@ pub(crate) fn dispatch(
             want,
         } => put(ledger, client, stream, want),
         Call::Delete { client, stream } => delete(ledger, client, stream),
+        _ => unreachable!(),
+    }
+}
+
+// How a call about a stream's status or subjects is answered.
+#[tactic(auto, unfolding(sig_calls::specs::Table::told_of))]
+fn steer(ledger: &mut Ledger, call: &Call, now: u64) -> Result<Step, PrepareFault>
+    requires { kind_of call.now ≡ Steering }
+    ensures keeps { ledger.new.books ≡ ledger.old.books }
+    ensures answers { (rules : Rules) → Answers PrepareFault.Memory (result_map reply_in result) (prepared_of rules (sum_in ledger.old.books) call.now now) }
+    ensures room { IfOk result (λ step. IfSome step.change (HasRoom (sum_in ledger.new.books).parts ledger.new.room)) }
+{
+    match call {
         Call::GetStatus { client, stream } => get_status(ledger, client, stream),
         Call::SetStatus {
             client,
@@ -59,6 +105,19 @@ pub(crate) fn dispatch(
             stream,
             subject,
         } => remove(ledger, client, stream, subject),
+        _ => unreachable!(),
+    }
+}
+
+// How a call about tokens is answered.
+#[tactic(auto, unfolding(sig_calls::specs::Table::told_of))]
+fn tell(ledger: &mut Ledger, call: &Call, now: u64) -> Result<Step, PrepareFault>
+    requires { kind_of call.now ≡ Telling }
+    ensures keeps { ledger.new.books ≡ ledger.old.books }
+    ensures answers { (rules : Rules) → Answers PrepareFault.Memory (result_map reply_in result) (prepared_of rules (sum_in ledger.old.books) call.now now) }
+    ensures room { IfOk result (λ step. IfSome step.change (HasRoom (sum_in ledger.new.books).parts ledger.new.room)) }
+{
+    match call {
         Call::Verify {
             client,
             stream,
@@ -82,5 +141,6 @@ pub(crate) fn dispatch(
             number,
             outcome,
         } => settle(ledger, stream, *number, outcome),
+        _ => unreachable!(),
     }
 }

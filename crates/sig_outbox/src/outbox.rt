@@ -1,8 +1,8 @@
-ghost use Rattle.std.specs.Prelude.{◌≡◌, [], ◌∷◌, IfOk, length, map, option_map, is_some};
+ghost use Rattle.std.specs.Prelude.{◌≡◌, ◌↔◌, [], ◌∷◌, IfOk, IsTrue, length, map, option_map, is_some};
 ghost use Rattle.sig_json.specs.Answers.{Answers, result_map};
 
 use crate::dispatch::dispatch;
-use sig_json::Text;
+use sig_json::{Memory, Text};
 use sig_ledger::{Ledger, Prepared, Step};
 use sig_terms::{Call, PrepareFault, Rules};
 use std::alloc::Global;
@@ -30,7 +30,7 @@ impl Outbox {
     ghost use Rattle.sig_history.specs.Owed.{empty_sum, owed_count, sum_of};
     ghost use Rattle.sig_history.specs.Sound.{Fits};
     ghost use Rattle.sig_history.specs.Streams.{Stream, publication_of};
-    ghost use Rattle.sig_calls.specs.Proper.{IsProperRules};
+    ghost use Rattle.sig_calls.specs.Proper.{IsProperCall, IsProperRules};
     ghost use Rattle.sig_calls.specs.Table.{prepared_of};
     ghost use Rattle.sig_ledger.specs.Room.{HasRoom};
     ghost use Rattle.sig_ledger.specs.Steps.{reply_in};
@@ -51,7 +51,7 @@ impl Outbox {
     pub fn prepare(&mut self, rules: &Rules, call: &Call, now: u64) -> Result<Step, PrepareFault>
         ensures state { self.new.sum ≡ self.old.sum }
         ensures answers { Answers PrepareFault.Memory (result_map reply_in result) (prepared_of rules.now self.old.sum call.now now) }
-        ensures ready { IfOk result (λ step. IsProperRules rules.now → IsReady self.new step.change) }
+        ensures ready { IfOk result (λ step. IsProperRules rules.now → IsProperCall call.now → IsReady self.new step.change) }
     {
         // That a call's fact fits rests on books that are kept.
         self.ledger.books_are_kept();
@@ -65,6 +65,21 @@ impl Outbox {
         ensures { self.new.sum ≡ sum_of self.old.sum (prepared.fact ∷ []) }
     {
         self.ledger.commit(prepared);
+    }
+
+    /// An equal state, with room of its own. Out of memory is its only error.
+    pub fn copy(&self) -> Result<Outbox, Memory>
+        ensures { IfOk result (λ o. o.sum ≡ self.now.sum) }
+    {
+        let ledger = self.ledger.copy()?;
+        Ok(Outbox { ledger })
+    }
+
+    /// Whether both states are equal, whatever room each has. It takes no memory.
+    pub fn same(&self, other: &Outbox) -> bool
+        ensures { IsTrue result ↔ (self.now.sum ≡ other.now.sum) }
+    {
+        self.ledger.same(&other.ledger)
     }
 
     /// How many tokens the stream owes; none exactly where it doesn't stand. It takes no memory.
