@@ -93,8 +93,10 @@ impl Replayer {
     ghost use Rattle.sig_world.specs.Replaying.{Goes, GoesNot, IsAt};
     ghost use Rattle.sig_world.specs.Replay.{replay_ends, replay_rules};
     ghost use Rattle.sig_law.specs.World.{World, new_world, sum_in};
+    ghost use Rattle.sig_calls.specs.Proper.{IsProperCall};
     ghost use Rattle.sig_calls.specs.Table.{prepared_of};
     ghost use Rattle.sig_ledger.specs.Steps.{reply_in};
+    ghost use Rattle.sig_script.specs.Laws.{IsProperLine};
     ghost use Rattle.sig_outbox.specs.State.{IsReady};
     ghost use Rattle.std.specs.Prelude.{Ok, Some};
 
@@ -139,7 +141,8 @@ impl Replayer {
         line: ScriptLine,
         text: &mut Bytes,
     ) -> Result<(), TellFault>
-        requires { (world : World) × IsAt self.old world }
+        requires stands { (world : World) × IsAt self.old world }
+        requires proper { IsProperLine line }
         ensures plays { OnOk result ((world : World) → IsAt self.old world → Goes (played_line number world line) self.new text.old text.new) }
         ensures stops { IfErr result (λ fault. (world : World) → IsAt self.old world → GoesNot (played_line number world line) fault) }
     {
@@ -154,7 +157,8 @@ impl Replayer {
         line: &ScriptLine,
         text: &mut Bytes,
     ) -> Result<(), TellFault>
-        requires { (world : World) × IsAt self.old world }
+        requires stands { (world : World) × IsAt self.old world }
+        requires proper { IsProperLine line.now }
         ensures plays { OnOk result ((world : World) → IsAt self.old world → Goes (played_line number world line.now) self.new text.old text.new) }
         ensures stops { IfErr result (λ fault. (world : World) → IsAt self.old world → GoesNot (played_line number world line.now) fault) }
     {
@@ -201,7 +205,8 @@ impl Replayer {
 
     // A call of the replay's own; it is dropped by itself, so that this function has no part of its many kinds.
     fn bring(&mut self, number: u64, call: Call, text: &mut Bytes) -> Result<(), TellFault>
-        requires { (world : World) × IsAt self.old world }
+        requires stands { (world : World) × IsAt self.old world }
+        requires proper { IsProperCall call }
         ensures plays { OnOk result ((world : World) → IsAt self.old world → Goes (played_call number world call) self.new text.old text.new) }
         ensures stops { IfErr result (λ fault. (world : World) → IsAt self.old world → GoesNot (played_call number world call) fault) }
     {
@@ -242,7 +247,8 @@ impl Replayer {
 
     // A call at the transmitter.
     fn call(&mut self, number: u64, call: &Call, text: &mut Bytes) -> Result<(), TellFault>
-        requires { (world : World) × IsAt self.old world }
+        requires stands { (world : World) × IsAt self.old world }
+        requires proper { IsProperCall call.now }
         ensures plays { OnOk result ((world : World) → IsAt self.old world → Goes (played_call number world call.now) self.new text.old text.new) }
         ensures stops { IfErr result (λ fault. (world : World) → IsAt self.old world → GoesNot (played_call number world call.now) fault) }
     {

@@ -4,4 +4,4 @@ use Rattle.sig_world.proofs.ReplayerLemmas.{proper}
 use Rattle.sig_world.proofs.replayer.Replayer.call.Goals as goal
 
 pub take-requires : goal.take-requires
-take-requires c = c.in-Ok.ensures.ready (ap is_proper_rules c.requires.1.rules ∙ proper)
+take-requires c = c.in-Ok.ensures.ready (ap is_proper_rules c.requires.stands.1.rules ∙ proper) c.requires.proper
