@@ -6,15 +6,18 @@
 //! come to by `sig_history`.
 //!
 //! Promised: `Outbox::prepare` answers by that table and leaves the state; its fact fits, and room is held for it;
-//! `Outbox::commit` takes the fact in without memory, and leaves what the history comes to with it. A copy is equal, and two
-//! states are compared by what their histories came to (`Outbox::copy`, `Outbox::same`). Left out: disks, networks and time,
-//! which the layers above bring.
+//! `Outbox::commit` takes the fact in without memory, and leaves what the history comes to with it; `Outbox::apply` does so
+//! with a fact that was journalled, and refuses exactly one that doesn't fit. A copy is equal, and two states are compared by
+//! what their histories came to (`Outbox::copy`, `Outbox::same`). Left out: disks, networks and time, which the layers above
+//! bring.
 #![tactic(auto)]
 
+mod applying;
 mod dispatch;
 mod outbox;
 mod threads;
 
+pub use applying::ApplyFault;
 pub use outbox::Outbox;
 pub use sig_ledger::{Prepared, Step};
 pub use sig_terms::{

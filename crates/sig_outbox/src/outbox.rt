@@ -1,10 +1,11 @@
-ghost use Rattle.std.specs.Prelude.{◌≡◌, ◌↔◌, [], ◌∷◌, IfOk, IsTrue, length, map, option_map, is_some};
+ghost use Rattle.std.specs.Prelude.{◌≡◌, ◌↔◌, [], ◌∷◌, IfOk, IsTrue, OnErr, OnOk, length, map, option_map, is_some};
 ghost use Rattle.sig_json.specs.Answers.{Answers, result_map};
 
+use crate::applying::{ApplyFault, take_in};
 use crate::dispatch::dispatch;
 use sig_json::{Memory, Text};
 use sig_ledger::{Ledger, Prepared, Step};
-use sig_terms::{Call, PrepareFault, Rules};
+use sig_terms::{Call, Fact, PrepareFault, Rules};
 use std::alloc::Global;
 use std::marker::Model;
 
@@ -28,13 +29,14 @@ impl Model for Outbox {
 impl Outbox {
     ghost use Rattle.std.specs.List.{slice_get};
     ghost use Rattle.sig_history.specs.Owed.{empty_sum, owed_count, sum_of};
+    ghost use Rattle.sig_history.specs.Sound as sound;
     ghost use Rattle.sig_history.specs.Sound.{Fits};
     ghost use Rattle.sig_history.specs.Streams.{Stream, publication_of};
     ghost use Rattle.sig_calls.specs.Proper.{IsProperCall, IsProperRules};
     ghost use Rattle.sig_calls.specs.Table.{prepared_of};
     ghost use Rattle.sig_ledger.specs.Room.{HasRoom};
     ghost use Rattle.sig_ledger.specs.Steps.{reply_in};
-    ghost use Rattle.sig_outbox.specs.State.{IsReady};
+    ghost use Rattle.sig_outbox.specs.State.{IsReady, taken_where};
 
     /// A new store's: no stream stands. It takes no memory.
     pub fn new(alloc: Global, store_id: [u8; 16]) -> Outbox
@@ -65,6 +67,17 @@ impl Outbox {
         ensures { self.new.sum ≡ sum_of self.old.sum (prepared.fact ∷ []) }
     {
         self.ledger.commit(prepared);
+    }
+
+    /// Takes in a fact that was journalled. After a refusal the state is as before.
+    ///
+    /// `Bad` comes exactly where the fact doesn't fit what the history came to.
+    pub fn apply(&mut self, fact: Fact) -> Result<(), ApplyFault>
+        ensures fits { Answers ApplyFault.Memory result (taken_where (sound.is_fitting self.old.sum fact)) }
+        ensures takes { OnOk result (self.new.sum ≡ sum_of self.old.sum (fact ∷ [])) }
+        ensures stays { OnErr result (self.new.sum ≡ self.old.sum) }
+    {
+        take_in(&mut self.ledger, fact)
     }
 
     /// An equal state, with room of its own. Out of memory is its only error.
