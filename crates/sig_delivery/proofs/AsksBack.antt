@@ -1,19 +1,18 @@
 -- What is written of an ask is read as that ask.
-use Rattle.std.proofs.Common.{◌≡◌, ◌≤◌, ◌<◌, ◌^◌, ℕ, suc, List, [], ◌∷◌, map, All, true, Option, Some, None, Ordering, Less, Equal, Greater, nat_cmp, IsUtf8, refl, sym, ap, subst, ◌∙◌, arith}
+use Rattle.std.proofs.Common.{◌≡◌, ◌≤◌, ◌<◌, ◌^◌, ℕ, suc, List, [], ◌∷◌, map, All, true, Option, Some, None, Ordering, Less, Equal, Greater, nat_cmp, IsUtf8, refl, ap, arith}
 use Rattle.std.specs.Prelude.{⊤, Ok, IfSome}
 use Rattle.std.specs.Cmp.Lexicographic.{slice_cmp}
 use Rattle.std.specs.Ordering.{match_ordering}
 use Rattle.json.proofs.Printed.Utf8.{are_ascii, IsUtf8-are_ascii}
-use Rattle.serde_json.specs.Data.{Data, string, object, Items, Members, no_members, member, depth, items_depth, members_depth}
+use Rattle.serde_json.specs.Data.{string, depth, items_depth, members_depth}
 use Rattle.serde_json.specs.Read.{max_depth}
 use Rattle.serde_json.specs.View.{items_of}
 use Rattle.sig_json.proofs.ReadBack.{canon_reads}
 use Rattle.sig_json.specs.Canon.{AreCanonical, IsBelow, IsCanonical, MembersAreCanonical}
-use Rattle.sig_terms.specs.declared.call.PollAsk.{PollAsk}
 use Rattle.sig_terms.specs.declared.call.Reported.{Reported}
-use Rattle.sig_delivery.specs.Asks.{ask_data, ask_in, ask_read, error_data, error_members, errors_by_name, errors_data, errors_of, jti_of, texts_data}
+use Rattle.sig_delivery.specs.Asks.{ask_data, ask_in, error_data, error_members, errors_by_name, errors_of, jti_of}
 use Rattle.sig_delivery.specs.Bodies.{before, texts_of}
-use Rattle.sig_delivery.specs.Laws.{HasTexts, ReadsBackAsk}
+use Rattle.sig_delivery.specs.Laws.{ReadsBackAsk}
 use Rattle.sig_delivery.specs.Named.{IsBelowAll, IsByName, placed}
 use Rattle.sig_delivery.proofs.ByNames.{is_by_name}
 

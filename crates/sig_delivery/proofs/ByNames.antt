@@ -1,6 +1,5 @@
 -- Lists by name are in order, each name once, and under each stands the first.
-use Rattle.std.proofs.Common.{◌≡◌, ℕ, List, [], ◌∷◌, Bool, true, false, cond, Option, Some, None, Ordering, Less, Equal, Greater, nat_cmp, refl, sym, ap, subst, ◌∙◌}
-use Rattle.std.specs.Prelude.{⊤, find}
+use Rattle.std.proofs.Common.{◌≡◌, ℕ, List, [], ◌∷◌, Bool, true, false, cond, Option, Some, Ordering, Less, Equal, Greater, nat_cmp, refl, sym, ap, subst, ◌∙◌}
 use Rattle.std.specs.Str.{bytes_eq}
 use Rattle.std.specs.Cmp.Lexicographic.{slice_cmp}
 use Rattle.std.specs.Ordering.{match_ordering}
@@ -8,11 +7,8 @@ use Rattle.std.proofs.lemmas.Cmp.{nat_list_cmp_total, tied_itself}
 use Rattle.std.proofs.lemmas.Map.Lookups.{exact_bytes}
 use Rattle.std.proofs.lemmas.Slice.Eq.{bytes_eq-Decides}
 use Rattle.sig_json.proofs.OrderedMembers.{above}
-use Rattle.sig_jws.specs.declared.key.Key.{Key}
-use Rattle.sig_terms.specs.declared.call.Reported.{Reported}
-use Rattle.sig_terms.specs.declared.token.Token.{Token}
 use Rattle.sig_delivery.specs.Asks as asks
-use Rattle.sig_delivery.specs.Laws.{AreOrderedErrors, AreOrderedTokens, OrdersErrors, OrdersTokens}
+use Rattle.sig_delivery.specs.Laws.{AreOrderedErrors, AreOrderedTokens}
 use Rattle.sig_delivery.specs.Named.{IsBelowAll, IsByName, by_name, first_named, placed}
 use Rattle.sig_delivery.specs.Sets as sets
 

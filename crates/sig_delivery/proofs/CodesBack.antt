@@ -1,11 +1,8 @@
 -- The response that refuses a token settles it by its code.
-use Rattle.std.proofs.Common.{◌≡◌, ◌≤◌, List, ℕ, true, Some, IsUtf8, refl, ap, ◌∙◌, arith}
+use Rattle.std.proofs.Common.{◌≡◌, List, ℕ, true, Some, IsUtf8, refl, arith}
 use Rattle.json.proofs.Printed.Utf8.{are_ascii, IsUtf8-are_ascii}
-use Rattle.serde_json.specs.Data.{depth}
-use Rattle.serde_json.specs.Read.{max_depth}
 use Rattle.serde_json.specs.Written.{compact_text}
 use Rattle.sig_json.proofs.ReadBack.{canon_reads}
-use Rattle.sig_json.specs.Canon.{IsCanonical}
 use Rattle.sig_json.specs.Json.{json_of}
 use Rattle.sig_set.specs.Spelled.{code_text, spot_text}
 use Rattle.sig_set.specs.declared.refusal.Code.{Code}

@@ -8,10 +8,9 @@ use Rattle.sig_jws.specs.Compact.{signed}
 use Rattle.sig_jws.specs.declared.key.Key.{Key}
 use Rattle.sig_set.specs.Written.{header_text_of, payload_text_of, token_text}
 use Rattle.sig_terms.specs.declared.token.Token.{Token}
-use Rattle.sig_delivery.specs.declared.sets.Listed.{Listed}
 use Rattle.sig_delivery.specs.Entries.{payload_entries, signed_entries}
-use Rattle.sig_delivery.specs.Named.{by_name, placed}
-use Rattle.sig_delivery.specs.Sets.{all_signed, jti_of, listed, listed_as}
+use Rattle.sig_delivery.specs.Named.{placed}
+use Rattle.sig_delivery.specs.Sets.{jti_of, listed, listed_as}
 
 -- the payloads put one after another, that of the first token last
 abbrev pub put_payloads : List Token → List (List ℕ × List ℕ) → List (List ℕ × List ℕ)

@@ -1,6 +1,6 @@
 -- What is read of a body stands in byte order of identifiers, each identifier once.
-use Rattle.std.proofs.Common.{◌≡◌, ℕ, List, [], ◌∷◌, Option, Some, None, nat_cmp, Less, refl, sym, ap, subst, ◌∙◌}
-use Rattle.std.specs.Prelude.{⊤, Ok, Result, codes, option_and_then, option_map, unwrap_or}
+use Rattle.std.proofs.Common.{◌≡◌, ℕ, List, [], ◌∷◌, Option, Some, None, nat_cmp, Less, refl, sym, ap, subst}
+use Rattle.std.specs.Prelude.{Ok, codes, option_and_then, option_map, unwrap_or}
 use Rattle.std.specs.Cmp.Lexicographic.{slice_cmp}
 use Rattle.serde_json.specs.Data.{Data, null, boolean, number, string, array, object, Members, no_members, member}
 use Rattle.serde_json.specs.Find.{as_object, as_str, get_member}
@@ -11,9 +11,6 @@ use Rattle.sig_json.specs.Order.{InOrder, MembersInOrder}
 use Rattle.sig_json.proofs.Decided.{value_is}
 use Rattle.sig_json.proofs.Spelled.{get_in_order, spelled_in_order}
 use Rattle.sig_terms.specs.declared.call.PollAsk.{PollAsk}
-use Rattle.sig_terms.specs.declared.call.Reported.{Reported}
-use Rattle.sig_delivery.specs.declared.fault.BodyFault.{BodyFault}
-use Rattle.sig_delivery.specs.declared.sets.Listed.{Listed}
 use Rattle.sig_delivery.specs.declared.sets.Sets.{Sets}
 use Rattle.sig_delivery.specs.Asks as asks
 use Rattle.sig_delivery.specs.Bodies.{before, body_by, members_read, or_missing}

@@ -1,28 +1,28 @@
 -- What is written of tokens is read as their identifiers and their signed texts.
-use Rattle.std.proofs.Common.{◌≡◌, ◌≤◌, ℕ, suc, List, [], ◌∷◌, ◌++◌, All, Bool, Option, Some, None, Ordering, Less, Equal, Greater, nat_cmp, IsUtf8, refl, sym, ap, subst, ◌∙◌, arith}
+use Rattle.std.proofs.Common.{◌≡◌, ◌≤◌, ℕ, suc, List, [], ◌∷◌, ◌++◌, All, Bool, Some, Ordering, Less, Equal, Greater, nat_cmp, IsUtf8, refl, ap, arith}
 use Rattle.std.specs.Prelude.{⊤, Ok}
 use Rattle.std.specs.Cmp.Lexicographic.{slice_cmp}
 use Rattle.std.specs.Ordering.{match_ordering}
 use Rattle.std.specs.Str.{IsAscii}
 use Rattle.std.proofs.lemmas.Str.{IsAscii-append, IsUtf8-from_ascii}
-use Rattle.std.proofs.lemmas.Str.Ascii.{IsAscii-nil, IsAscii-cons}
+use Rattle.std.proofs.lemmas.Str.Ascii.{IsAscii-cons}
 use Rattle.base64.proofs.EngineFacts.{IsAscii-encode_of}
 use Rattle.base64.specs.Engines.{url_safe_no_pad}
 use Rattle.json.proofs.Printed.Utf8.{IsUtf8-are_ascii}
-use Rattle.serde_json.specs.Data.{Data, string, object, Members, no_members, member, depth, members_depth}
+use Rattle.serde_json.specs.Data.{depth, members_depth}
 use Rattle.serde_json.specs.Read.{max_depth}
 use Rattle.sig_json.proofs.ReadBack.{canon_reads}
 use Rattle.sig_json.specs.Canon.{IsBelow, IsCanonical, MembersAreCanonical}
 use Rattle.sig_jws.specs.Compact.{base64url, dot, input_of, signed}
 use Rattle.sig_jws.specs.Hmac.{hmac_of}
 use Rattle.sig_jws.specs.declared.key.Key.{Key}
-use Rattle.sig_set.specs.Written.{header_text_of, payload_text_of, token_text}
+use Rattle.sig_set.specs.Written.{header_text_of, payload_text_of}
 use Rattle.sig_terms.specs.declared.token.Token.{Token}
 use Rattle.sig_delivery.specs.declared.sets.Listed.{Listed}
 use Rattle.sig_delivery.specs.Bodies.{before}
 use Rattle.sig_delivery.specs.Laws.{ReadsBackSets}
-use Rattle.sig_delivery.specs.Named.{IsBelowAll, IsByName, by_name, placed}
-use Rattle.sig_delivery.specs.Sets.{all_signed, jti_of, listed, listed_as, listed_members, listed_of, sets_data, sets_in, signed_as}
+use Rattle.sig_delivery.specs.Named.{IsBelowAll, IsByName, placed}
+use Rattle.sig_delivery.specs.Sets.{all_signed, jti_of, listed, listed_members, listed_of, sets_data, sets_in, signed_as}
 use Rattle.sig_delivery.proofs.ByNames.{is_by_name}
 
 -- ---- signed texts are ASCII

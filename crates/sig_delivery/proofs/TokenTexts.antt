@@ -1,11 +1,11 @@
 -- A signed token is written in a JSON string as it is: no byte of it is escaped (RFC 4648, section 5; RFC 8259, section 7).
-use Rattle.std.proofs.Common.{◌≡◌, ℕ, zero, suc, ◌<◌, ◌*◌, ◌+◌, ◌/◌, ◌%◌, List, [], ◌∷◌, ◌++◌, Bool, true, ◌&&◌, refl, sym, ap, ap₂, ◌∙◌, subst, arith, inl, inr, slice_index, length, append_assoc, append-nil}
+use Rattle.std.proofs.Common.{◌≡◌, ℕ, zero, suc, ◌<◌, ◌*◌, ◌+◌, ◌/◌, ◌%◌, List, [], ◌∷◌, ◌++◌, Bool, true, ◌&&◌, refl, sym, ap, ap₂, ◌∙◌, arith, inl, inr, slice_index, append_assoc}
 use Rattle.std.specs.Str.{bytes_eq}
 use Rattle.std.proofs.lemmas.Slice.Eq.{bytes_eq-Decides}
 use Rattle.std.proofs.lemmas.Bool.{and_parts, cases_eq}
 use Rattle.base64.specs.Engines.{url_safe_no_pad}
 use Rattle.base64.specs.GeneralPurpose.{IsBytes, engine_symbols}
-use Rattle.base64.specs.Rfc4648.{encode_group, encode_one, encode_symbols, encode_two}
+use Rattle.base64.specs.Rfc4648.{encode_symbols}
 use Rattle.json.specs.Print.{escape, escape_byte, quoted}
 use Rattle.sig_jws.specs.Compact.{base64url, dot, input_of, signed}
 use Rattle.sig_jws.specs.Hmac.{hmac_of}

@@ -1,6 +1,6 @@
 -- No fraction stands in what is written of an ask.
-use Rattle.std.proofs.Common.{◌≡◌, ℕ, List, [], ◌∷◌, map, Option, Some, None, false, refl, ap, ◌∙◌}
-use Rattle.serde_json.specs.Data.{Members, string}
+use Rattle.std.proofs.Common.{◌≡◌, ℕ, List, [], ◌∷◌, map, Option, Some, None, false, refl}
+use Rattle.serde_json.specs.Data.{string}
 use Rattle.serde_json.specs.View.{items_of}
 use Rattle.serde_json.specs.Written.{has_float, items_have_float, members_have_float}
 use Rattle.sig_terms.specs.declared.call.PollAsk.{PollAsk}

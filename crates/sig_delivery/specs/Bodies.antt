@@ -1,6 +1,6 @@
 -- How the body of a delivery is read (RFC 8936, section 2): a JSON object whose members are checked in order, and the first that is
 -- wrong is the fault. Members without a name here are passed over.
-use Rattle.std.specs.Prelude.{ℕ, List, [], ◌∷◌, Bool, is_some, Option, Some, None, option_and_then, option_map, Result, Ok, Err, codes}
+use Rattle.std.specs.Prelude.{ℕ, List, [], ◌∷◌, is_some, Option, Some, None, option_and_then, option_map, Result, Err, codes}
 use Rattle.serde_json.specs.Data.{Data, Items, no_items, item, Members, no_members, member}
 use Rattle.serde_json.specs.Find.{as_str}
 use Rattle.sig_json.specs.Checks.{Check, check}

@@ -1,5 +1,5 @@
 -- A poll response (RFC 8936, section 2.5): the tokens that are handed out, each under its identifier, and whether there are more.
-use Rattle.std.specs.Prelude.{ℕ, List, [], ◌∷◌, Bool, false, Option, Some, None, option_and_then, option_map, unwrap_or, Result, codes}
+use Rattle.std.specs.Prelude.{ℕ, List, [], ◌∷◌, Bool, false, Option, option_and_then, option_map, unwrap_or, Result, codes}
 use Rattle.serde_json.specs.Data.{Data, boolean, string, object, Members, no_members, member}
 use Rattle.serde_json.specs.Find.{as_bool, as_object, as_str}
 use Rattle.serde_json.specs.Written.{compact_text}
