@@ -15,6 +15,8 @@
 mod applying;
 mod dispatch;
 mod outbox;
+#[cfg(test)]
+mod tests;
 mod threads;
 
 pub use applying::ApplyFault;
