@@ -109,7 +109,7 @@ OUTCOMES = [
     ("Of a repeated member the last stands", 400, b'{"err":"access_denied","err":"invalid_key"}', 'reported "invalid_key"'),
     ("", 400, b'{"err":"invalid_key","err":"access_denied"}', "keep"),
     ("A body that is no JSON object with a text `err` settles nothing", 400, b"", "keep"),
-    *[("", 400, text, "keep") for text in [b"{}", b"[]", b'["err"]', b'"err"', b"null", b'{"error":"invalid_key"}', b'{"Err":"invalid_key"}', b'{"err":null}', b'{"err":7}', b'{"err":["invalid_key"]}', b'{"err":{"err":"invalid_key"}}', b"{", b'{"err":"invalid_key"', b'{"err":"\xff"}', b"invalid_key", b"<html></html>"]],
+    *[("", 400, text, "keep") for text in [b"{}", b"[ ]", b'["err"]', b'"err"', b"null", b'{"error":"invalid_key"}', b'{"Err":"invalid_key"}', b'{"err":null}', b'{"err":7}', b'{"err":["invalid_key"]}', b'{"err":{"err":"invalid_key"}}', b"{", b'{"err":"invalid_key"', b'{"err":"\xff"}', b"invalid_key", b"<html></html>"]],
 ]
 
 
