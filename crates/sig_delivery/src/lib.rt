@@ -26,6 +26,7 @@ mod outcome;
 mod push;
 mod sets;
 mod sets_writing;
+mod signing;
 #[cfg(test)]
 mod tests;
 mod threads;

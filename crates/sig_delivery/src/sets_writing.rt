@@ -13,9 +13,10 @@ ghost use Rattle.sig_delivery.specs.Sets as spec;
 ghost use Rattle.sig_delivery.specs.Entries.{name_text, payload_entries, signed_entries, start_of};
 
 use crate::body::value_text;
+use crate::signing::sign_prepared;
 use serde_json::json;
 use sig_json::{Bytes, Items, Memory, Text, Value, canon};
-use sig_jws::{Key, sign};
+use sig_jws::{Key, PreparedKey};
 use sig_set::payload_text;
 use sig_terms::Token;
 use std::alloc::Global;
@@ -34,14 +35,9 @@ pub fn write_sets(
 {
     let header = header_text(alloc, &key.kid)?;
     let payloads = all_payloads(alloc, tokens.as_slice())?;
+    let key = PreparedKey::of(key.copy(alloc)?);
     let mut text = Bytes::of(alloc, start(more).as_bytes())?;
-    add_members(
-        alloc,
-        &mut text,
-        &payloads,
-        header.as_slice(),
-        key.bytes.as_slice(),
-    )?;
+    add_members(alloc, &mut text, &payloads, header.as_slice(), &key)?;
     text.add(b"}")?;
     Ok(text)
 }
@@ -104,9 +100,9 @@ fn add_members(
     text: &mut Bytes,
     payloads: &BTreeMap<Text, Bytes>,
     header: &[u8],
-    key: &[u8],
+    key: &PreparedKey,
 ) -> Result<(), Memory>
-    ensures { OnOk result (text.new ≡ text.old ++ members_text false (spec.listed_members (signed_entries header.now key.now payloads.now.entries))) }
+    ensures { OnOk result (text.new ≡ text.old ++ members_text false (spec.listed_members (signed_entries header.now key.now.bytes payloads.now.entries))) }
 {
     let mut later = false;
     for (jti, payload) in payloads.iter() {
@@ -144,11 +140,11 @@ fn add_token(
     text: &mut Bytes,
     header: &[u8],
     payload: &[u8],
-    key: &[u8],
+    key: &PreparedKey,
 ) -> Result<(), Memory>
-    ensures { OnOk result (text.new ≡ text.old ++ print.quoted (signed header.now payload.now key.now)) }
+    ensures { OnOk result (text.new ≡ text.old ++ print.quoted (signed header.now payload.now key.now.bytes)) }
 {
-    let token = sign(alloc, header, payload, key)?;
+    let token = sign_prepared(alloc, header, payload, key)?;
     text.add(b"\"")?;
     text.add(token.as_slice())?;
     text.add(b"\"")?;

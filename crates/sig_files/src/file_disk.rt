@@ -56,6 +56,13 @@ impl FileDisk {
         }
     }
 
+    /// How many calls failed.
+    pub fn faults(&self) -> u64
+        ensures { result ≡ self.now }
+    {
+        self.faults
+    }
+
     // Counts a call that failed.
     fn counted<T: Drop>(&mut self, done: Option<T>) -> Result<T, Failed>
         ensures cause { HasCause self.old self.new result }

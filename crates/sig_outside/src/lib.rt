@@ -42,6 +42,3 @@ pub use mode::Mode;
 pub use place::Place;
 pub use sink::{PutFault, Sink, put_all};
 pub use source::Source;
-
-#[cfg(test)]
-mod tests;

@@ -443,6 +443,3 @@ fn copy_from(bytes: &[u8], at: u64, buf: &mut [u8]) -> usize
     front.copy_from_slice(rest.split_at(count).0);
     count
 }
-
-#[cfg(test)]
-mod tests;

@@ -9,10 +9,10 @@
 //! Left out: what the system itself gives or takes, which no contract can say.
 #![tactic(auto)]
 
+mod again;
 mod reader_source;
-#[cfg(test)]
-mod tests;
 mod writer_sink;
 
+pub use again::{read_again, write_again};
 pub use reader_source::ReaderSource;
 pub use writer_sink::WriterSink;

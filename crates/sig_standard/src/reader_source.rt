@@ -1,7 +1,8 @@
 ghost use Rattle.std.specs.Prelude.{◌≡◌, None};
 
+use crate::read_again;
 use sig_outside::{Failed, Source};
-use std::io::{ErrorKind, Read};
+use std::io::Read;
 
 /// A source over a reader. What is left of it is what the reader tells: of standard input nothing.
 #[derive(Drop)]
@@ -18,6 +19,13 @@ impl<R: Read> ReaderSource<R> {
     {
         ReaderSource { reader, faults: 0 }
     }
+
+    /// How many calls failed.
+    pub fn faults(&self) -> u64
+        ensures { result ≡ self.now.faults }
+    {
+        self.faults
+    }
 }
 
 impl<R: Read> Source for ReaderSource<R> {
@@ -28,14 +36,10 @@ impl<R: Read> Source for ReaderSource<R> {
     ghost faults = { λ s. s.faults };
 
     fn take(&mut self, buf: &mut [u8]) -> Result<usize, Failed> {
-        'tries: for _ in 0..u64::MAX {
-            match self.reader.read(buf) {
-                Ok(count) => return Ok(count),
-                Err(error) if error.kind() == ErrorKind::Interrupted => {}
-                Err(_) => break 'tries,
-            }
+        let result = read_again(&mut self.reader, buf);
+        if result.is_err() {
+            self.faults = self.faults.saturating_add(1);
         }
-        self.faults = self.faults.saturating_add(1);
-        Err(Failed)
+        result
     }
 }

@@ -1,7 +1,8 @@
 ghost use Rattle.std.specs.Prelude.{◌≡◌, None};
 
+use crate::write_again;
 use sig_outside::{Failed, Sink};
-use std::io::{ErrorKind, Write};
+use std::io::Write;
 
 /// A sink over a writer. What is written is what the writer tells: of standard output nothing.
 #[derive(Drop)]
@@ -36,19 +37,12 @@ impl<W: Write> Sink for WriterSink<W> {
     ghost stalls = { λ s. s.stalls };
 
     fn put(&mut self, bytes: &[u8]) -> Result<usize, Failed> {
-        'tries: for _ in 0..u64::MAX {
-            match self.writer.write(bytes) {
-                Ok(count) => {
-                    if count == 0 && !bytes.is_empty() {
-                        self.stalls = self.stalls.saturating_add(1);
-                    }
-                    return Ok(count);
-                }
-                Err(error) if error.kind() == ErrorKind::Interrupted => {}
-                Err(_) => break 'tries,
-            }
+        let result = write_again(&mut self.writer, bytes);
+        match result {
+            Ok(0) if !bytes.is_empty() => self.stalls = self.stalls.saturating_add(1),
+            Ok(_) => {}
+            Err(_) => self.faults = self.faults.saturating_add(1),
         }
-        self.faults = self.faults.saturating_add(1);
-        Err(Failed)
+        result
     }
 }

@@ -11,5 +11,5 @@ returns c =
     added _ _ _ _ c.in_ok-add-3.ensures.ok
     (added _ _ _ _ (added_as _ _ _ _ c.in_ok-add-2.ensures.ok (c.as_slice.ensures ∙ c.in_ok-token.ensures)) c.in_ok-add.ensures.ok)
     ∙ three c.args.text.now _ _ _
-    ∙ ap (λ q. c.args.text.now ++ q) (sym (quoted_token c.args.header.now c.args.payload.now c.args.key.now
+    ∙ ap (λ q. c.args.text.now ++ q) (sym (quoted_token c.args.header.now c.args.payload.now c.args.key.now.bytes
     (λ i. let fits = c.type_inv.header i in omega arith) (λ i. let fits = c.type_inv.payload i in omega arith)))

@@ -1,0 +1,8 @@
+/// What a door answers.
+#[derive(Debug, Drop)]
+pub enum Accepted<L, S> {
+    /// A link came; the side stands beside it.
+    Link { link: L, side: S },
+    /// No further link will come.
+    Shut,
+}

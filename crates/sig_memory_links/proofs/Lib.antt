@@ -1,0 +1,3 @@
+pub mod NamedLemmas
+pub mod SideLemmas
+pub mod StoreLemmas

@@ -1,0 +1,8 @@
+use crate::{MemLink, MemSide};
+
+/// A link that comes to a door, and the side beside it.
+#[derive(Debug, Drop)]
+pub struct Coming {
+    pub link: MemLink,
+    pub side: MemSide,
+}
