@@ -53,15 +53,21 @@ fn subject_in(alloc: Global, text: &str) -> Result<Option<Subject>, Memory>
     let Some(value) = value_in(alloc, text)? else {
         return Ok(None);
     };
-    let Some(subject) = subject_at(alloc, &value)? else {
-        return Ok(None);
-    };
+    match subject_at(alloc, &value)? {
+        Some(subject) => subject_so(alloc, subject, text),
+        None => Ok(None),
+    }
+}
+
+// The subject, where this is the text that is written of it.
+fn subject_so(alloc: Global, subject: Subject, text: &str) -> Result<Option<Subject>, Memory>
+    ensures { IfOk result (λ s. s ≡ parts.subject_so text.now subject) }
+{
     let written = subject_text(alloc, &subject)?;
-    Ok(if written.as_str() == text {
-        Some(subject)
-    } else {
-        None
-    })
+    if written.as_str() == text {
+        return Ok(Some(subject));
+    }
+    Ok(None)
 }
 
 fn value_in(alloc: Global, text: &str) -> Result<Option<Value>, Memory>
@@ -150,15 +156,21 @@ fn event_in(
     let Some(value) = value_in(alloc, text)? else {
         return Ok(None);
     };
-    let Some(event) = event_at(alloc, subject, uri, &value)? else {
-        return Ok(None);
-    };
+    match event_at(alloc, subject, uri, &value)? {
+        Some(event) => event_so(alloc, event, text),
+        None => Ok(None),
+    }
+}
+
+// The event, where this is the text that is written of its payload.
+fn event_so(alloc: Global, event: Event, text: &str) -> Result<Option<Event>, Memory>
+    ensures { IfOk result (λ e. e ≡ parts.event_so text.now event) }
+{
     let written = event_text(alloc, &event)?;
-    Ok(if written.as_str() == text {
-        Some(event)
-    } else {
-        None
-    })
+    if written.as_str() == text {
+        return Ok(Some(event));
+    }
+    Ok(None)
 }
 
 fn event_at(

@@ -16,8 +16,6 @@ mod field;
 mod kinds;
 pub mod laws;
 mod reading;
-#[cfg(test)]
-mod tests;
 mod threads;
 mod whole;
 

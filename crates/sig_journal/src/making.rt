@@ -45,7 +45,9 @@ pub fn make<D: Disk>(a: &mut D, b: &mut D, kind: Kind, store_id: [u8; 16]) -> Re
     ensures untouched { (n : ℕ) → IsErrOf result (MakeFault.Taken n) → (D.seen a.new ≡ D.seen a.old) × (D.seen b.new ≡ D.seen b.old) }
     ensures store { IsErrOf result MakeFault.Store → Rose (D.faults a.old) (D.faults a.new) ⊎ Rose (D.faults b.old) (D.faults b.new) }
     ensures steady { OnOk result ((D.faults a.new ≡ D.faults a.old) × (D.faults b.new ≡ D.faults b.old)) }
+    ensures calm { (n : ℕ) → IsErrOf result (MakeFault.Taken n) → (D.faults a.new ≡ D.faults a.old) × (D.faults b.new ≡ D.faults b.old) }
     ensures later { (D.faults a.old ≤ D.faults a.new) × (D.faults b.old ≤ D.faults b.new) }
+    ensures told { (D.told a.new ≡ D.told a.old) × (D.told b.new ≡ D.told b.old) }
 {
     expect_empty(a)?;
     expect_empty(b)?;
@@ -62,6 +64,7 @@ fn expect_empty<D: Disk>(file: &mut D) -> Result<(), MakeFault>
     ensures told { D.told file.new ≡ D.told file.old }
     ensures store { IsErrOf result MakeFault.Store → Rose (D.faults file.old) (D.faults file.new) }
     ensures steady { OnOk result (D.faults file.new ≡ D.faults file.old) }
+    ensures calm { (n : ℕ) → IsErrOf result (MakeFault.Taken n) → D.faults file.new ≡ D.faults file.old }
     ensures later { D.faults file.old ≤ D.faults file.new }
 {
     let size = file.size()?;

@@ -1,0 +1,3 @@
+pub mod Appends
+pub mod Stands
+pub mod LoadSteps
