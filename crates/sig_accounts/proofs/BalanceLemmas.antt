@@ -1,5 +1,5 @@
 -- How streams that are held in memory change.
-use Rattle.std.proofs.Common.{◌≡◌, ◌∙◌, ap, sym, ℕ, ◌+◌, ◌<◌, List, ◌++◌, length, map, filter, take, drop, get_or, not, Bool, arith}
+use Rattle.std.proofs.Common.{◌≡◌, ◌≢◌, ◌∙◌, ap, sym, subst, ℕ, ◌+◌, ◌<◌, List, ◌++◌, length, map, filter, take, drop, get_or, get_or-set_other, get_or-set_same, below_more, not, Bool, arith}
 use Rattle.std.proofs.lemmas.List.{map-set, length-map}
 use Rattle.std.proofs.Math.ListN.{set, get_or-map}
 use Rattle.std.proofs.lemmas.List.Edits.{map_over_more}
@@ -40,3 +40,11 @@ over_more f old now i r new within so_far read is =
     map-set owing_in now i new
     ∙ ap (set (map owing_in now) i) is
     ∙ map_over_more f (map owing_in old) (map owing_in now) i x.owing (omega (arith, length-map old owing_in)) so_far same
+
+-- one more stream of which it holds
+pub holds_more : (P : Balance → Type 0) (bs : List Balance) (i : ℕ) (new : Balance) → i < length bs
+    → ((k : ℕ) (d : Balance) → k < i → P (get_or bs k d)) → P new → (k : ℕ) (d : Balance) → k < i + 1 → P (get_or (set bs i new) k d)
+holds_more P bs i new within so_far now k d h =
+    below_more (λ k. P (get_or (set bs i new) k d)) _
+    (λ k h. let ne : k ≢ i = omega arith in subst P (sym (get_or-set_other _ _ _ _ d ne)) (so_far k d h))
+    (subst P (sym (get_or-set_same bs i new d within)) now) k h

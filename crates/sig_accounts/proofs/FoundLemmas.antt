@@ -1,5 +1,5 @@
 -- The stream of a name, among streams and in what they come to.
-use Rattle.std.proofs.Common.{◌≡◌, ap, ℕ, List, [], ◌∷◌, length, map, true, false, ◌||◌, None, Some, if◌then◌else◌, refl}
+use Rattle.std.proofs.Common.{◌≡◌, ◌∙◌, ap, sym, ℕ, List, [], ◌∷◌, length, map, true, false, ◌||◌, None, Some, if◌then◌else◌, refl}
 use Rattle.std.specs.Prelude.{is_some, option_map}
 use Rattle.std.proofs.lemmas.List.{length-map}
 use Rattle.sig_history.specs.Streams.{Publication, is_named, stands}
@@ -28,25 +28,23 @@ found_in sid published name (p ∷ ps) o found =
       | false ↦ λ found. found_in sid published name ps o found
     ] found
 
+pub named_stands : (sid : List ℕ) (published : List Publication) (name : List ℕ) (os : List Owing)
+    → is_some (owing_named name os) ≡ stands name (map stream_in (map (standing_of sid published) os))
+named_stands sid published name [] = refl
+named_stands sid published name (p ∷ ps) =
+    elim (is_named name p.stream) as (λ b. is_some (if b then Some p else owing_named name ps)
+    ≡ (b || stands name (map stream_in (map (standing_of sid published) ps)))) [
+      | true ↦ refl
+      | false ↦ named_stands sid published name ps
+    ]
+
 pub stands_in : (sid : List ℕ) (published : List Publication) (name : List ℕ) (os : List Owing) (o : Owing) → owing_named name os ≡ Some o
     → stands name (map stream_in (map (standing_of sid published) os)) ≡ true
-stands_in sid published name [] o found = cc
-stands_in sid published name (p ∷ ps) o found =
-    elim (is_named name p.stream) as (λ b. (if b then Some p else owing_named name ps) ≡ Some o
-    → (b || stands name (map stream_in (map (standing_of sid published) ps))) ≡ true) [
-      | true ↦ λ found. refl
-      | false ↦ λ found. stands_in sid published name ps o found
-    ] found
+stands_in sid published name os o found = sym (named_stands sid published name os) ∙ ap is_some found
 
 pub missing_in : (sid : List ℕ) (published : List Publication) (name : List ℕ) (os : List Owing) → owing_named name os ≡ None
     → stands name (map stream_in (map (standing_of sid published) os)) ≡ false
-missing_in sid published name [] found = refl
-missing_in sid published name (p ∷ ps) found =
-    elim (is_named name p.stream) as (λ b. (if b then Some p else owing_named name ps) ≡ None
-    → (b || stands name (map stream_in (map (standing_of sid published) ps))) ≡ false) [
-      | true ↦ λ found. cc
-      | false ↦ λ found. missing_in sid published name ps found
-    ] found
+missing_in sid published name os missing = sym (named_stands sid published name os) ∙ ap is_some missing
 
 pub none_in : (sid : List ℕ) (published : List Publication) (name : List ℕ) (os : List Owing) → owing_named name os ≡ None
     → owed_in name (map stream_in (map (standing_of sid published) os)) (map owed_in_standing (map (standing_of sid published) os)) ≡ []
@@ -72,14 +70,4 @@ counted_in sid published name (p ∷ ps) =
     ≡ option_map (λ (o : Owing). length o.owed) (if b then Some p else owing_named name ps)) [
       | true ↦ ap (λ n. Some n) (length-map p.owed (made_of sid published p.stream))
       | false ↦ counted_in sid published name ps
-    ]
-
-pub named_stands : (sid : List ℕ) (published : List Publication) (name : List ℕ) (os : List Owing)
-    → is_some (owing_named name os) ≡ stands name (map stream_in (map (standing_of sid published) os))
-named_stands sid published name [] = refl
-named_stands sid published name (p ∷ ps) =
-    elim (is_named name p.stream) as (λ b. is_some (if b then Some p else owing_named name ps)
-    ≡ (b || stands name (map stream_in (map (standing_of sid published) ps)))) [
-      | true ↦ refl
-      | false ↦ named_stands sid published name ps
     ]

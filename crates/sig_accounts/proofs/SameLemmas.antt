@@ -12,16 +12,6 @@ use Rattle.sig_accounts.specs.Owings.{ArePlaced, Balance, Owing, Telling, Told, 
 pub alike_length : {X Y : Type 0} (f : X → Y) (a b : List X) → map f a ≡ map f b → length a ≡ length b
 alike_length f a b same = sym (length-map a f) ∙ ap length same ∙ length-map b f
 
--- one more item of each
-pub alike_more : {X Y : Type 0} (f : X → Y) (a b : List X) (i : ℕ) (x y : X) → i < length a → i < length b → x ≡ get_or a i x → y ≡ get_or b i y
-    → map f (take i a) ≡ map f (take i b) → f x ≡ f y → map f (take (i + 1) a) ≡ map f (take (i + 1) b)
-alike_more f a b i x y within inside read found so_far same =
-    ap (map f) (take_more a i x within ∙ ap (λ z. take i a ++ z ∷ []) (sym read))
-    ∙ map-append f (take i a) (x ∷ [])
-    ∙ ap (λ l. l ++ f x ∷ []) so_far ∙ ap (λ z. map f (take i b) ++ z ∷ []) same
-    ∙ sym (map-append f (take i b) (y ∷ []))
-    ∙ ap (map f) (ap (λ z. take i b ++ z ∷ []) found ∙ sym (take_more b i y inside))
-
 -- items at one place of lists that come to the same
 pub alike_at : {X Y : Type 0} (f : X → Y) (a b : List X) (i : ℕ) (x y : X) → i < length b → x ≡ get_or a i x → y ≡ get_or b i y
     → map f a ≡ map f b → f x ≡ f y

@@ -10,6 +10,7 @@ ghost use Rattle.sig_history.specs.Streams as streams;
 use crate::copying::copy_list;
 use crate::debt::{Debt, Notice, Said};
 use crate::names::client_in;
+use crate::shared_name::SharedName;
 use indexmap::IndexSet;
 use sig_event::{News, Status};
 use sig_json::{Items, Memory, Same, Text, copy_optional, same_slices};
@@ -24,6 +25,8 @@ use std::marker::Model;
 pub struct Account {
     number: u64,
     conf: StreamConf,
+    // The name that is in the configuration, for its tokens to share.
+    name: SharedName,
     status: Status,
     reason: Option<Text>,
     listed: Vec<Subject>,
@@ -33,7 +36,7 @@ pub struct Account {
 }
 
 impl Model for Account {
-    ghost use Rattle.std.specs.Prelude.{◌-◌, vec_len, vec_capacity};
+    ghost use Rattle.std.specs.Prelude.{◌≡◌, ◌-◌, vec_len, vec_capacity};
     ghost use Rattle.sig_history.specs.Streams.{client_in};
     ghost use Rattle.sig_accounts.specs.Owings.{Balance};
 
@@ -56,19 +59,24 @@ impl Model for Account {
       room = vec_capacity a.owed - vec_len a.owed;
       subjects = vec_capacity a.listed - vec_len a.listed;
     } };
+
+    ghost invariant = { λ a. a.name ≡ a.conf.stream };
 }
 
 impl Account {
     ghost use Rattle.sig_accounts.specs.Owings.{Balance, opened_balance, owing_asked, owing_heard, owing_noted, owing_set, owing_settled, owing_told, owing_with, room_in, subjects_in};
     ghost use Rattle.sig_accounts.specs.Owings.{HasRoomFor};
 
-    /// A new stream: it is enabled, has nobody on its list, and no token was made for it. It takes no memory.
-    pub fn open(alloc: Global, number: u64, conf: StreamConf) -> Account
+    /// A new stream, with its name to be shared: it is enabled, has nobody on its list, and no token was made for it. It takes
+    /// no memory.
+    pub fn open(alloc: Global, number: u64, conf: StreamConf, name: SharedName) -> Account
+        requires { name ≡ conf.stream }
         ensures { result ≡ opened_balance (facts.new_stream (streams.client_in conf.stream) number conf) }
     {
         Account {
             number,
             conf,
+            name,
             status: Status::Enabled,
             reason: None,
             listed: Vec::new(alloc),
@@ -82,15 +90,20 @@ impl Account {
     pub fn copy(&self, alloc: Global) -> Result<Account, Memory>
         ensures { IfOk result (λ a. a.owing ≡ self.now.owing) }
     {
+        let name = self.name.share()?;
+        let reason = copy_optional(alloc, &self.reason)?;
+        let listed = copy_list(alloc, self.listed.as_slice())?;
+        let owed = copy_list(alloc, self.owed.as_slice())?;
         Ok(Account {
             number: self.number,
             conf: self.conf.copy(alloc)?,
+            name,
             status: self.status,
-            reason: copy_optional(alloc, &self.reason)?,
-            listed: copy_list(alloc, self.listed.as_slice())?,
+            reason,
+            listed,
             asked: self.asked,
             made: self.made,
-            owed: copy_list(alloc, self.owed.as_slice())?,
+            owed,
         })
     }
 
@@ -112,6 +125,13 @@ impl Account {
         ensures { result.now ≡ self.now.owing.stream.conf }
     {
         &self.conf
+    }
+
+    /// Its name, for its tokens to share.
+    pub fn name(&self) -> &SharedName
+        ensures { result.now ≡ self.now.owing.stream.conf.stream }
+    {
+        &self.name
     }
 
     /// Its client's name: what stands before the first hyphen of its own.

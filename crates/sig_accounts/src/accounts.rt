@@ -8,9 +8,10 @@ ghost use Rattle.sig_accounts.specs.Owings.{Balance, client_owing, has_name, iss
 ghost use Rattle.sig_accounts.specs.Owings.{HasRoomFor, IsBelowTop};
 
 use crate::account::Account;
+use crate::kept_token::KeptToken;
 use sig_event::News;
 use sig_json::{Items, Memory, Text};
-use sig_terms::{Fact, Issued};
+use sig_terms::Fact;
 use std::alloc::Global;
 
 /// The first stream of a name.
@@ -118,19 +119,20 @@ pub fn hear_all(accounts: &mut [Account], news: &News, time: u64, place: usize)
     }
 }
 
-/// The tokens that a fact makes, by stream and number.
-pub fn issued_on(alloc: Global, accounts: &[Account], fact: &Fact) -> Result<Items<Issued>, Memory>
+/// The tokens that a fact makes, by stream and number. Each shares its stream's name.
+pub fn issued_on(
+    alloc: Global,
+    accounts: &[Account],
+    fact: &Fact,
+) -> Result<Items<KeptToken>, Memory>
     requires { All IsBelowTop accounts.now }
     ensures { IfOk result (λ items. items ≡ issued_by fact.now (map stream_in (map owing_in accounts.now))) }
 {
     let mut issued = Vec::new(alloc);
     for account in accounts {
         if account.is_told(fact) {
-            let token = Issued {
-                stream: account.conf().stream.copy(alloc)?,
-                number: account.made() + 1,
-            };
-            issued.push(token)?;
+            let name = account.name().share()?;
+            issued.push(KeptToken::of(name, account.made() + 1))?;
         }
     }
     Ok(Items::of(issued))

@@ -4,8 +4,9 @@
 //! room that it holds; `specs/Owings` says what a fact leaves of it, and which tokens its debts are.
 //!
 //! Promised: each change of a stream is that of the history; it keeps its debts in order; a change takes no memory where its
-//! room was reserved, and reserving changes no stream; streams are the same exactly where their tokens say the same. Left
-//! out: which changes a fact makes of all streams, which `sig_ledger` says.
+//! room was reserved, and reserving changes no stream; streams are the same exactly where their tokens say the same. Tokens
+//! that are kept of a publication share their streams' names, which no contract says. Left out: which changes a fact makes of
+//! all streams, which `sig_ledger` says.
 #![tactic(auto)]
 
 mod account;
@@ -14,10 +15,12 @@ mod copying;
 mod counted;
 mod counts;
 mod debt;
+mod kept_token;
 mod names;
 mod places;
 mod publication;
 mod sameness;
+mod shared_name;
 
 pub use account::Account;
 pub use accounts::{
@@ -28,7 +31,9 @@ pub use copying::{copy_accounts, copy_list};
 pub use counted::Counted;
 pub use counts::{count_one, created_by};
 pub use debt::{Debt, Notice, Said};
+pub use kept_token::{KeptToken, tokens_issued};
 pub use names::{client_in, jti_text, stream_name};
 pub use places::{enter_place, place_of, places_of, reserve_place};
 pub use publication::{Publication, publication_at};
 pub use sameness::same_accounts;
+pub use shared_name::SharedName;

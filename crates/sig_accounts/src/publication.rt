@@ -1,19 +1,20 @@
-ghost use Rattle.std.specs.Prelude.{◌≡◌, option_map};
+ghost use Rattle.std.specs.Prelude.{◌≡◌, IfOk, option_map};
 ghost use Rattle.std.specs.List.{slice_get};
 ghost use Rattle.sig_history.specs.Streams as streams;
 
+use crate::kept_token::{KeptToken, tokens_issued};
 use sig_event::News;
 use sig_json::{Copied, Items, Memory, Same, Text, copy_items};
 use sig_terms::Issued;
 use std::alloc::Global;
 use std::marker::Model;
 
-/// A publication, with the tokens that it made.
+/// A publication, with the tokens that it made, which hold no text each.
 #[derive(Debug, Drop)]
 pub struct Publication {
     id: Text,
     news: News,
-    issued: Items<Issued>,
+    issued: Items<KeptToken>,
 }
 
 impl Model for Publication {
@@ -24,7 +25,7 @@ impl Model for Publication {
 
 impl Publication {
     /// A publication of these parts.
-    pub fn of(id: Text, news: News, issued: Items<Issued>) -> Publication
+    pub fn of(id: Text, news: News, issued: Items<KeptToken>) -> Publication
         ensures { result ≡ record { id = id; news = news; issued = issued } }
     {
         Publication { id, news, issued }
@@ -44,20 +45,22 @@ impl Publication {
         &self.news
     }
 
-    /// The tokens that it made.
-    pub fn issued(&self) -> &Items<Issued>
-        ensures { result.now ≡ self.now.issued }
+    /// The tokens that it made, each with a text of its own.
+    pub fn issued(&self, alloc: Global) -> Result<Items<Issued>, Memory>
+        ensures { IfOk result (λ items. items ≡ self.now.issued) }
     {
-        &self.issued
+        tokens_issued(alloc, &self.issued)
     }
 }
 
 impl Copied for Publication {
     fn copied(&self, alloc: Global) -> Result<Publication, Memory> {
+        let id = self.id.copy(alloc)?;
+        let issued = copy_items(alloc, &self.issued)?;
         Ok(Publication {
-            id: self.id.copy(alloc)?,
+            id,
             news: self.news.copy(alloc)?,
-            issued: copy_items(alloc, &self.issued)?,
+            issued,
         })
     }
 }

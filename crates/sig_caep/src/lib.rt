@@ -19,8 +19,6 @@ mod initiator;
 mod kind;
 pub mod laws;
 mod reading;
-#[cfg(test)]
-mod tests;
 mod threads;
 mod writing;
 

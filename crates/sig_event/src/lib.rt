@@ -19,8 +19,6 @@ pub mod laws;
 mod news;
 mod reading;
 mod status;
-#[cfg(test)]
-mod tests;
 mod threads;
 mod writing;
 

@@ -3,12 +3,4 @@ pub mod StreamLemmas
 pub mod SizeLemmas
 pub mod StepLemmas
 pub mod WholeLemmas
-pub mod SoundLemmas
-pub mod LeftLemmas
-pub mod UriTexts
-pub mod StreamNews
-pub mod KeptLemmas
-pub mod NameLemmas
-pub mod OwedStepLemmas
 pub mod ChangeLemmas
-pub mod OthersLemmas

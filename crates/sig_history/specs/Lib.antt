@@ -7,4 +7,3 @@ pub mod Whole
 pub mod Standings
 pub mod Ours
 pub mod Changes
-pub mod Laws

@@ -27,8 +27,6 @@ mod memory;
 mod payload;
 mod reading;
 mod same;
-#[cfg(test)]
-mod tests;
 mod text;
 mod threads;
 

@@ -17,8 +17,6 @@ mod key;
 pub mod laws;
 mod mac;
 mod prepared;
-#[cfg(test)]
-mod tests;
 mod threads;
 
 pub use compact::{Compact, SplitFault, sign, split, verifies};

@@ -10,7 +10,7 @@ use Rattle.sig_terms.specs.declared.token.Token.{Token}
 use Rattle.sig_terms.specs.declared.call.Call.{Call}
 use Rattle.sig_calls.specs.Table.{over_top}
 use Rattle.sig_law.specs.Law.{IsFrontOf, GoesOn, OnlyGrows}
-use Rattle.sig_law.specs.World.{Act, Called, Delivered, Answered, Acts, Elapsed, Ends, World, Reply, Event, answer_recorded, answer_told, call_recorded, call_told, delivery_recorded, delivery_told, happens, may_come, recorded, run, settle_call, sum_in, told}
+use Rattle.sig_law.specs.World.{Act, Called, Delivered, Answered, Acts, Crashed, Elapsed, Ends, World, Reply, Event, answer_recorded, answer_told, call_recorded, call_told, delivery_recorded, delivery_told, happens, may_come, recorded, run, settle_call, sum_in, told}
 
 -- ---- fronts
 
@@ -114,6 +114,8 @@ pub happens_grows : (ends : Ends) (world : World) (e : Event) → GoesOn world (
 happens_grows ends world (Acts act) =
     goes_further world (recorded ends act world) (told ends act world (recorded ends act world)) (recorded_grows ends act world)
     (told_grows ends act world (recorded ends act world))
+happens_grows ends world (Crashed act true) = recorded_grows ends act world
+happens_grows ends world (Crashed act false) = stays world
 happens_grows ends world (Elapsed time) = either (nat_le time LAST_NUMBER) world _ world (record {
   facts = itself world.facts;
   journal = itself world.journal;

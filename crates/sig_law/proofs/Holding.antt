@@ -12,10 +12,10 @@ use Rattle.sig_history.specs.Owed.{Sum, empty_sum, owed_by, sum_of}
 use Rattle.sig_history.specs.Sound.{Fits, is_sound}
 use Rattle.sig_history.specs.Ours.{IsKept, IsMadeFor, IsOurFact, IsOurToken}
 use Rattle.sig_history.proofs.JoinLemmas.{joined}
-use Rattle.sig_history.proofs.KeptLemmas.{kept_after}
-use Rattle.sig_history.proofs.SoundLemmas.{sound_more}
+use Rattle.sig_owing.proofs.KeptLemmas.{kept_after}
+use Rattle.sig_owing.proofs.SoundLemmas.{sound_more}
 use Rattle.sig_calls.specs.Regular.{IsOwedAfter}
-use Rattle.sig_law.specs.Law.{tokens_in}
+use Rattle.sig_law.specs.Law.{IsValidText, tokens_in}
 use Rattle.sig_law.specs.World.{Ends, World, sum_in, with_facts, with_messages}
 use Rattle.sig_law.proofs.Counted.{OwesItsOwn}
 use Rattle.sig_law.proofs.Held.{IsCounted, IsHeld, IsMade, held_after, held_handing}
@@ -25,6 +25,7 @@ pub record Holds (ends : Ends) (world : World) : Type 0 where
   pub kept : IsKept ends.rules.issuer ends.store_id (sum_in ends world) (tokens_in ends world)
   pub sound : is_sound (empty_sum ends.store_id) world.facts ≡ true
   pub held : IsHeld ends.rules.issuer ends.store_id (tokens_in ends world) world.facts world.journal world.messages world.replies
+  pub valid : All (IsValidText ends) world.journal
   pub early : world.time ≤ LAST_NUMBER
 
 -- ---- what is owed
@@ -65,6 +66,7 @@ fact_holds ends world f text holds fits ours counted =
       held = subst (λ l. IsHeld ends.rules.issuer ends.store_id l (world.facts ++ f ∷ []) world.journal world.messages world.replies) (sym made)
           (held_after ends.rules.issuer ends.store_id (tokens_in ends world) (made_by (parts_of base.parts world.facts) f) world.facts f
           world.journal world.messages world.replies holds.held counted);
+      valid = holds.valid;
       early = holds.early;
     }
 
@@ -84,6 +86,7 @@ messages_hold ends world more holds all = record {
   kept = holds.kept;
   sound = holds.sound;
   held = held_handing ends.rules.issuer ends.store_id (tokens_in ends world) world.facts world.journal world.messages more world.replies holds.held all;
+  valid = holds.valid;
   early = holds.early;
 }
 

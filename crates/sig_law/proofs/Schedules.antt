@@ -1,13 +1,14 @@
 -- What holds of the world holds after every schedule.
-use Rattle.std.proofs.Common.{◌≡◌, sym, subst, List, [], ◌∷◌, true, refl, arith}
+use Rattle.std.proofs.Common.{◌≡◌, ap, sym, subst, List, [], ◌∷◌, true, refl, arith}
 use Rattle.std.specs.Prelude.{All}
 use Rattle.std.proofs.lemmas.List.Elements.{All-head, All-nil, All-tail, All-weaker}
 use Rattle.sig_inbox.specs.Pairs.{has_pair}
 use Rattle.sig_receiver.specs.Journal.{pairs_of}
+use Rattle.sig_receiver.specs.Rows.{fold_rows}
 use Rattle.sig_history.specs.Streams.{Made}
 use Rattle.sig_history.specs.Ours.{IsOurToken}
-use Rattle.sig_history.proofs.KeptLemmas.{kept_new}
-use Rattle.sig_history.proofs.LeftLemmas.{owes_left}
+use Rattle.sig_owing.proofs.KeptLemmas.{kept_new}
+use Rattle.sig_owing.proofs.LeftLemmas.{owes_left}
 use Rattle.sig_law.specs.Law.{AreProper, HoldsOnEverySchedule, IsLawful, IsProperEvent, is_acknowledged, is_journalled, tokens_in}
 use Rattle.sig_law.specs.World.{Ends, World, Reply, Event, happens, is_taken, new_world, run}
 use Rattle.sig_law.proofs.Counted.{pair_ours}
@@ -35,6 +36,7 @@ new_holds ends = record {
     once = refl;
     settled = λ t is. cc is;
   };
+  valid = All-nil _;
   early = omega arith;
 }
 
@@ -56,7 +58,9 @@ lawful ends world holds = record {
       (λ (t : Made). is_acknowledged world.facts t ≡ true → is_journalled world t.claims ≡ true)
       (λ t ours. acknowledged_there ends world t holds ours) (tokens_in ends world) holds.kept.made;
   journalled = holds.held.written;
+  valid = holds.valid;
   once = holds.held.once;
+  table = ap (fold_rows []) holds.held.once;
   owed = λ name. (owes_left ends.store_id world.facts name).1;
   sound = holds.sound;
 }

@@ -1,20 +1,22 @@
 -- What holds of the world holds after each act, and already after what is kept of it.
 use Rattle.std.specs.Option.{option_to_list}
-use Rattle.std.proofs.Common.{◌≡◌, sym, subst, ℕ, zero, suc, List, [], ◌∷◌, ◌++◌, map, Bool, true, false, Option, Some, None, if◌then◌else◌, refl}
+use Rattle.std.proofs.Common.{◌≡◌, ap, sym, subst, ℕ, zero, suc, List, [], ◌∷◌, ◌++◌, map, Bool, true, false, Option, Some, None, if◌then◌else◌, refl}
 use Rattle.std.specs.Prelude.{All, Contains, IfSome, IsUtf8, nat_le}
 use Rattle.std.specs.List.{slice_get}
 use Rattle.std.specs.Str.{is_utf8}
 use Rattle.std.proofs.lemmas.Bool.{and_parts, leb-true}
-use Rattle.std.proofs.lemmas.List.Elements.{All-head, All-tail, All-weaker}
+use Rattle.std.proofs.lemmas.List.Elements.{All-head, All-push, All-tail, All-weaker}
 use Rattle.std.proofs.lemmas.Str.{IsUtf8-from_is_utf8}
 use Rattle.sig_json.specs.Checks.{first_failing}
 use Rattle.sig_json.specs.declared.limits.TheConstants.{LAST_NUMBER}
+use Rattle.sig_event.specs.declared.claims.Claims.{Claims}
 use Rattle.sig_inbox.specs.Pairs.{has_pair}
 use Rattle.sig_set.specs.Checks.{Fault}
-use Rattle.sig_set.specs.Judgement.{checks, claims_of}
+use Rattle.sig_set.specs.Judgement.{Valid, checks, claims_of, judged_by}
 use Rattle.sig_set.specs.Written.{token_text}
 use Rattle.sig_set.proofs.JudgedValid.{written_claims}
-use Rattle.sig_receiver.specs.Journal.{pair_of, pairs_of}
+use Rattle.sig_receiver.specs.declared.heard.Heard.TheVariants.{Accepted, Seen}
+use Rattle.sig_receiver.specs.Journal.{answer_by, journal_by, pair_of, pairs_of}
 use Rattle.sig_terms.specs.declared.call.Call.{Call}
 use Rattle.sig_terms.specs.declared.fact.Fact.{Fact}
 use Rattle.sig_terms.specs.declared.rules.Rules.{Rules}
@@ -25,8 +27,8 @@ use Rattle.sig_history.specs.Ours.{IsOurs}
 use Rattle.sig_calls.specs.Proper.{IsProperCall, IsProperRules}
 use Rattle.sig_calls.specs.Regular.{IsOwedAfter, IsRegular, handed_by}
 use Rattle.sig_calls.specs.Table.{answer_of, change_of, over_top, told_of}
-use Rattle.sig_law.specs.Law.{AreProper, IsProperAct, IsProperEvent, tokens_in}
-use Rattle.sig_law.specs.World.{Act, Called, Delivered, Answered, Acts, Elapsed, Ends, Event, World, Reply, answer_recorded, answer_told, call_recorded, call_told, delivery_recorded, delivery_told, happens, heard_of, may_come, recorded, settle_call, sum_in, told, with_facts}
+use Rattle.sig_law.specs.Law.{AreProper, IsProperAct, IsProperEvent, IsValidText, tokens_in}
+use Rattle.sig_law.specs.World.{Act, Called, Delivered, Answered, Acts, Crashed, Elapsed, Ends, Event, World, Reply, answer_recorded, answer_told, call_recorded, call_told, delivery_recorded, delivery_told, happens, heard_of, may_come, recorded, settle_call, sum_in, told, with_facts}
 use Rattle.sig_calls.proofs.RegularLemmas.{calls_regular}
 use Rattle.sig_law.proofs.Counted.{IsTruthful, answer_truthful, call_truthful, fact_counted, message_ours}
 use Rattle.sig_law.proofs.Held.{IsHeard, IsMade, claims_made, held_hearing, held_judging, image, taken_there}
@@ -126,6 +128,25 @@ claims_there tokens m there = image claims_made tokens (made_in m) there
 abbrev fault_of : Ends → Token → Option Fault
 fault_of ends m = first_failing (checks ends.trust (Some m.claims.iss) None (token_text m.claims ends.rules.key))
 
+-- one that isn't refused is valid
+message_valid : (ends : Ends) (world : World) (m : Token) → AreProper ends → Holds ends world → IsMade (tokens_in ends world) m
+    → fault_of ends m ≡ None → IsValidText ends (token_text m.claims ends.rules.key)
+message_valid ends world m proper holds there none =
+    let text : List ℕ = token_text m.claims ends.rules.key in
+    subst (λ (c : Claims). judged_by (first_failing (checks ends.trust (Some c.iss) None text)) (claims_of text) ≡ Valid (claims_of text))
+    (sym (message_text ends world m proper holds there)) (ap (λ o. judged_by o (claims_of text)) none)
+
+-- what is kept of a text is valid, as what was kept before it
+valid_judging : (ends : Ends) (journal : List (List ℕ)) (text : List ℕ) (fault : Option Fault) → All (IsValidText ends) journal
+    → (fault ≡ None → IsValidText ends text)
+    → All (IsValidText ends) (journal_by (answer_by [] (judged_by fault (claims_of text)) journal) journal text)
+valid_judging ends journal text (Some fault) all valid = all
+valid_judging ends journal text None all valid =
+    elim (has_pair (pair_of (claims_of text)) (pairs_of journal)) as (λ b. All (IsValidText ends) (journal_by (if b then Seen else Accepted) journal text)) [
+      | true ↦ all
+      | false ↦ All-push (IsValidText ends) journal text all (valid refl)
+    ]
+
 message_recorded : (ends : Ends) (world : World) (m : Token) → AreProper ends → Holds ends world → IsMade (tokens_in ends world) m
     → Holds ends (delivery_recorded ends (Some m) world)
 message_recorded ends world m proper holds there = record {
@@ -135,6 +156,8 @@ message_recorded ends world m proper holds there = record {
       (token_text m.claims ends.rules.key) (fault_of ends m) holds.held
       (subst (Contains (map claims_made (tokens_in ends world))) (sym (message_text ends world m proper holds there))
       (claims_there (tokens_in ends world) m there));
+  valid = valid_judging ends world.journal (token_text m.claims ends.rules.key) (fault_of ends m) holds.valid
+      (message_valid ends world m proper holds there);
   early = holds.early;
 }
 
@@ -152,6 +175,7 @@ message_told ends world m proper holds there after =
             taken = λ is. subst (λ c. has_pair (pair_of c) (pairs_of later.journal) ≡ true) (message_text ends world m proper holds there)
                 (taken_there world.journal (token_text m.claims ends.rules.key) (fault_of ends m) is);
           });
+      valid = after.valid;
       early = after.early;
     }
 
@@ -229,10 +253,13 @@ told_holds ends world (Answered place) proper holds after = answer_told_holds en
 pub event_holds : (ends : Ends) (world : World) (e : Event) → AreProper ends → IsProperEvent e → Holds ends world → Holds ends (happens ends world e)
 event_holds ends world (Acts act) proper fair holds =
     told_holds ends world act proper holds (recorded_holds ends world act proper fair holds)
+event_holds ends world (Crashed act true) proper fair holds = recorded_holds ends world act proper fair holds
+event_holds ends world (Crashed act false) proper fair holds = holds
 event_holds ends world (Elapsed time) proper fair holds =
     chosen (Holds ends) (nat_le time LAST_NUMBER) _ world (λ early. record {
       kept = holds.kept;
       sound = holds.sound;
       held = holds.held;
+      valid = holds.valid;
       early = leb-true time LAST_NUMBER early;
     }) holds

@@ -1,10 +1,12 @@
 -- What holds over every schedule.
-use Rattle.std.specs.Prelude.{◌≡◌, ℕ, List, [], ◌++◌, Bool, true, Some, map, filter, All, Contains, IsUtf8}
+use Rattle.std.specs.Prelude.{◌≡◌, ℕ, List, [], ◌++◌, Bool, true, Some, None, map, filter, All, Contains, IsUtf8}
 use Rattle.std.specs.List.{list_any}
 use Rattle.sig_event.specs.declared.claims.Claims.{Claims}
 use Rattle.sig_receiver.specs.Journal.{pair_of, pairs_of, distinct}
+use Rattle.sig_receiver.specs.Receiver.{nothing, received_of}
+use Rattle.sig_receiver.specs.Rows.{fold_rows}
 use Rattle.sig_inbox.specs.Pairs.{has_pair}
-use Rattle.sig_set.specs.Judgement.{claims_of}
+use Rattle.sig_set.specs.Judgement.{Valid, claims_of, judged}
 use Rattle.sig_terms.specs.declared.fact.Fact.{Fact}
 use Rattle.sig_history.specs.Streams.{Made, made_in}
 use Rattle.sig_history.specs.Facts.{tokens_of}
@@ -12,7 +14,7 @@ use Rattle.sig_history.specs.Owed.{empty_sum, is_left, made_along, owed_by, toke
 use Rattle.sig_history.specs.Sound.{is_sound}
 use Rattle.sig_calls.specs.Proper.{IsProperCall, IsProperRules}
 use Rattle.sig_calls.specs.Regular.{acknowledges}
-use Rattle.sig_law.specs.World.{Ends, World, Reply, Act, Event, Acts, Called, Delivered, Answered, Elapsed, new_world, is_taken, run, sum_in}
+use Rattle.sig_law.specs.World.{Ends, World, Reply, Act, Event, Acts, Crashed, Called, Delivered, Answered, Elapsed, new_world, is_taken, run, sum_in}
 
 -- the tokens that the transmitter made
 abbrev pub tokens_in : Ends → World → List Made
@@ -21,6 +23,10 @@ tokens_in ends world = tokens_of (empty_sum ends.store_id).parts world.facts
 -- the receiver's journal has a token of this issuer and identifier
 abbrev pub is_journalled : World → Claims → Bool
 is_journalled world claims = has_pair (pair_of claims) (pairs_of world.journal)
+
+-- the receiver judges the text as a valid token, which its own issuer brings
+abbrev pub IsValidText : Ends → List ℕ → Type 0
+IsValidText ends text = judged ends.trust (Some (claims_of text).iss) None text ≡ Valid (claims_of text)
 
 -- the transmitter counts the token as acknowledged
 abbrev pub is_acknowledged : List Fact → Made → Bool
@@ -43,8 +49,11 @@ pub record IsLawful (ends : Ends) (world : World) : Type 0 where
   -- each token in the journal is one that was made, with the same claims
   pub journalled :
       All (λ text. Contains (map (λ (t : Made). t.claims) (tokens_in ends world)) (claims_of text)) world.journal
-  -- each stands there once, so the session table is the fold of the journal
+  -- each is valid, and stands there once
+  pub valid : All (IsValidText ends) world.journal
   pub once : distinct [] world.journal ≡ world.journal
+  -- so the session table is the fold of them, each once in journal order
+  pub table : (received_of nothing world.journal).rows ≡ fold_rows [] world.journal
   -- each stream owes exactly the tokens that were made for it and that no later fact took off
   pub owed : (name : List ℕ)
       → owed_by (sum_in ends world) name ≡ map token_in (filter (is_left name) (made_along (empty_sum ends.store_id).parts world.facts))
@@ -59,6 +68,7 @@ IsProperAct (Answered place) = Unit {0}
 
 abbrev pub IsProperEvent : Event → Type 0
 IsProperEvent (Acts act) = IsProperAct act
+IsProperEvent (Crashed act kept) = IsProperAct act
 IsProperEvent (Elapsed time) = Unit {0}
 
 -- the law: it holds after every schedule of such events

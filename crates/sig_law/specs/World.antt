@@ -53,9 +53,11 @@ pub data Act : Type 0 where
   Delivered : ℕ → Act
   Answered : ℕ → Act
 
--- what happens: an end acts, and its answer is told; or it is another time
+-- what happens: an end acts, and its answer is told; an end crashes while it acts, before anything is told, and what it was
+-- about to keep stands in its store afterwards (`true`) or doesn't; or it is another time
 pub data Event : Type 0 where
   Acts : Act → Event
+  Crashed : Act → Bool → Event
   Elapsed : ℕ → Event
 
 -- the receiver has the token
@@ -218,6 +220,8 @@ at_time world time = record {
 -- what an event makes of the world
 abbrev pub happens : Ends → World → Event → World
 happens ends world (Acts act) = told ends act world (recorded ends act world)
+happens ends world (Crashed act true) = recorded ends act world
+happens ends world (Crashed act false) = world
 happens ends world (Elapsed time) = if nat_le time LAST_NUMBER then at_time world time else world
 
 -- what a schedule makes of it, event by event

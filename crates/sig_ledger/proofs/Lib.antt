@@ -1,3 +1,4 @@
+pub mod OnceLemmas
 pub mod FoundLemmas
 pub mod RoomLemmas
 pub mod TakenBooks

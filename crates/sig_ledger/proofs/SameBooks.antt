@@ -1,7 +1,7 @@
 -- Books that come to the same.
 use Rattle.std.proofs.Common.{◌≡◌, ◌∙◌, ap, sym, List, map}
 use Rattle.sig_history.specs.Owed.{Sum}
-use Rattle.sig_history.specs.Standings.{Standing, sum_with}
+use Rattle.sig_history.specs.Standings.{sum_with}
 use Rattle.sig_history.specs.Streams.{Publication}
 use Rattle.sig_accounts.specs.Owings.{Owing, standing_of, telling_of}
 use Rattle.sig_accounts.proofs.SameLemmas.{same_standings, same_tellings, standings_told}

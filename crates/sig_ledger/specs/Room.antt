@@ -1,5 +1,5 @@
 -- For what a ledger has room, and what a fact needs to be taken in without memory.
-use Rattle.std.specs.Prelude.{◌≡◌, ℕ, ◌<◌, List, [], ◌∷◌, Bool, true, Option, map}
+use Rattle.std.specs.Prelude.{◌≡◌, ℕ, ◌<◌, List, [], ◌∷◌, Bool, true, Option, Some, map}
 use Rattle.sig_terms.specs.declared.fact.Fact.{Fact}
 use Rattle.sig_terms.specs.declared.fact.Fact.TheVariants.{Created, Configured, StatusSet, Listed, Unlisted, Deleted, Published, Settled, Asked}
 use Rattle.sig_terms.specs.declared.token.Issued.{Issued}
@@ -23,10 +23,12 @@ pub record Held : Type 0 where
   pub books : Books
   pub room : Rooms
 
--- what is kept of a fact beside itself: the client's name for its count; a publication's id for the index, and the tokens that it
--- makes; the numbers that are settled, for look-ups; the reason of a status, for the token that tells it
+-- what is kept of a fact beside itself: the client's name for its count, and a new stream's for its tokens to share; a publication's
+-- id for the index, and the tokens that it makes; the numbers that are settled, for look-ups; the reason of a status, for the
+-- token that tells it
 pub record Spare : Type 0 where
   pub client : List ℕ
+  pub name : Option (List ℕ)
   pub id : List ℕ
   pub issued : List Issued
   pub numbers : List ℕ
@@ -45,7 +47,7 @@ HaveRoom test (s ∷ ss) (room ∷ rooms) = (test s ≡ true → 0 < room) × Ha
 
 -- what stands beside the fact is what is kept of it
 abbrev pub IsSpare : Parts → Fact → Spare → Type 0
-IsSpare parts (Created conf time) spare = spare.client ≡ client_in conf.stream
+IsSpare parts (Created conf time) spare = (spare.client ≡ client_in conf.stream) × (spare.name ≡ Some conf.stream)
 IsSpare parts (Configured stream requested delivery description) spare = Unit {0}
 IsSpare parts (StatusSet stream status reason operator time) spare = spare.reason ≡ reason
 IsSpare parts (Listed stream subject) spare = Unit {0}

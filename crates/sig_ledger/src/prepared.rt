@@ -1,8 +1,9 @@
-ghost use Rattle.std.specs.Prelude.{◌≡◌, [], None};
+ghost use Rattle.std.specs.Prelude.{◌≡◌, [], None, Some, is_some, true};
 
 use indexmap::IndexSet;
+use sig_accounts::{KeptToken, SharedName};
 use sig_json::{Items, Text};
-use sig_terms::{Fact, Issued};
+use sig_terms::Fact;
 use std::alloc::Global;
 use std::marker::Model;
 
@@ -10,8 +11,9 @@ use std::marker::Model;
 #[derive(Debug, Drop)]
 pub struct Spare {
     client: Text,
+    name: Option<SharedName>,
     id: Text,
-    issued: Items<Issued>,
+    issued: Items<KeptToken>,
     numbers: IndexSet<u64>,
     reason: Option<Text>,
 }
@@ -21,16 +23,17 @@ impl Model for Spare {
 
     ghost Value = { room.Spare };
 
-    ghost view = { λ s. record { client = s.client; id = s.id; issued = s.issued; numbers = s.numbers.keys; reason = s.reason } };
+    ghost view = { λ s. record { client = s.client; name = s.name; id = s.id; issued = s.issued; numbers = s.numbers.keys; reason = s.reason } };
 }
 
 impl Spare {
     /// For a fact of which nothing is kept beside itself. It takes no memory.
     pub fn none(alloc: Global) -> Spare
-        ensures { result ≡ record { client = []; id = []; issued = []; numbers = []; reason = None } }
+        ensures { result ≡ record { client = []; name = None; id = []; issued = []; numbers = []; reason = None } }
     {
         Spare {
             client: Text::from_string(String::new(alloc)),
+            name: None,
             id: Text::from_string(String::new(alloc)),
             issued: Items::of(Vec::new(alloc)),
             numbers: IndexSet::new(alloc),
@@ -38,18 +41,19 @@ impl Spare {
         }
     }
 
-    /// For a stream that is made: its client's name, for its count.
-    pub fn for_client(alloc: Global, client: Text) -> Spare
-        ensures { result ≡ record { client = client; id = []; issued = []; numbers = []; reason = None } }
+    /// For a stream that is made: its client's name, for its count, and its own, for its tokens to share.
+    pub fn for_stream(alloc: Global, client: Text, name: SharedName) -> Spare
+        ensures { result ≡ record { client = client; name = Some name; id = []; issued = []; numbers = []; reason = None } }
     {
         let mut spare = Spare::none(alloc);
         spare.client = client;
+        spare.name = Some(name);
         spare
     }
 
     /// For a publication: its id, for the index, and the tokens that it makes.
-    pub fn for_tokens(alloc: Global, id: Text, issued: Items<Issued>) -> Spare
-        ensures { result ≡ record { client = []; id = id; issued = issued; numbers = []; reason = None } }
+    pub fn for_tokens(alloc: Global, id: Text, issued: Items<KeptToken>) -> Spare
+        ensures { result ≡ record { client = []; name = None; id = id; issued = issued; numbers = []; reason = None } }
     {
         let mut spare = Spare::none(alloc);
         spare.id = id;
@@ -59,7 +63,7 @@ impl Spare {
 
     /// For tokens that are settled: their numbers.
     pub fn for_numbers(alloc: Global, numbers: IndexSet<u64>) -> Spare
-        ensures { result ≡ record { client = []; id = []; issued = []; numbers = numbers.keys; reason = None } }
+        ensures { result ≡ record { client = []; name = None; id = []; issued = []; numbers = numbers.keys; reason = None } }
     {
         let mut spare = Spare::none(alloc);
         spare.numbers = numbers;
@@ -68,22 +72,24 @@ impl Spare {
 
     /// For a status: its reason, for the token that tells it.
     pub fn for_reason(alloc: Global, reason: Option<Text>) -> Spare
-        ensures { result ≡ record { client = []; id = []; issued = []; numbers = []; reason = reason } }
+        ensures { result ≡ record { client = []; name = None; id = []; issued = []; numbers = []; reason = reason } }
     {
         let mut spare = Spare::none(alloc);
         spare.reason = reason;
         spare
     }
 
-    /// The client's name.
-    pub(crate) fn into_client(self) -> Text
-        ensures { result ≡ self.client }
+    /// The client's name, and that of the stream.
+    pub(crate) fn into_names(self) -> (Text, SharedName)
+        requires { is_some self.name ≡ true }
+        ensures client { result.0 ≡ self.client }
+        ensures name { Some result.1 ≡ self.name }
     {
-        self.client
+        (self.client, self.name.unwrap())
     }
 
     /// The id of a publication, and the tokens that it makes.
-    pub(crate) fn into_tokens(self) -> (Text, Items<Issued>)
+    pub(crate) fn into_tokens(self) -> (Text, Items<KeptToken>)
         ensures id { result.0 ≡ self.id }
         ensures issued { result.1 ≡ self.issued }
     {

@@ -24,13 +24,17 @@ pub fn claims_for(
 ) -> Result<Claims, Memory>
     ensures { IfOk result (λ c. c ≡ streams.claims_for store_id conf.now number time news.now) }
 {
+    let iss = conf.iss.copy(alloc)?;
+    let jti = jti_text(alloc, store_id, conf.stream.as_str(), number)?;
+    let aud = copy_items(alloc, &conf.aud)?;
+    let events = one_event(alloc, &news.event)?;
     Ok(Claims {
-        iss: conf.iss.copy(alloc)?,
-        jti: jti_text(alloc, store_id, conf.stream.as_str(), number)?,
+        iss,
+        jti,
         iat: time,
-        aud: copy_items(alloc, &conf.aud)?,
+        aud,
         subject: news.subject.copy(alloc)?,
-        events: one_event(alloc, &news.event)?,
+        events,
     })
 }
 
@@ -126,22 +130,47 @@ fn owed_claims(
     ensures { IfOk result (λ c. c ≡ streams.claims_for store_id conf.now debt.now.number debt.now.time
         (owings.news_of published.now conf.now.stream debt.now.said)) }
 {
-    let number = debt.number;
-    let time = debt.time;
     match &debt.said {
         Said::Published { place } => {
             let news = published[*place].news();
-            claims_for(alloc, store_id, conf, number, time, news)
+            claims_for(alloc, store_id, conf, debt.number, debt.time, news)
         }
-        Said::Verified { state } => {
-            let news = verified_news(alloc, &conf.stream, state)?;
-            claims_for(alloc, store_id, conf, number, time, &news)
-        }
+        Said::Verified { state } => verified_claims(alloc, store_id, conf, debt, state),
         Said::Updated { status, reason } => {
-            let news = updated_news(alloc, &conf.stream, *status, reason)?;
-            claims_for(alloc, store_id, conf, number, time, &news)
+            updated_claims(alloc, store_id, conf, debt, *status, reason)
         }
     }
+}
+
+// What the token of a debt says where the stream is verified.
+fn verified_claims(
+    alloc: Global,
+    store_id: [u8; 16],
+    conf: &StreamConf,
+    debt: &Debt,
+    state: &Option<Text>,
+) -> Result<Claims, Memory>
+    ensures { IfOk result (λ c. c ≡ streams.claims_for store_id conf.now debt.now.number debt.now.time
+        (facts.verified_news conf.now.stream state.now)) }
+{
+    let news = verified_news(alloc, &conf.stream, state)?;
+    claims_for(alloc, store_id, conf, debt.number, debt.time, &news)
+}
+
+// What the token of a debt says where the stream's status was set.
+fn updated_claims(
+    alloc: Global,
+    store_id: [u8; 16],
+    conf: &StreamConf,
+    debt: &Debt,
+    status: Status,
+    reason: &Option<Text>,
+) -> Result<Claims, Memory>
+    ensures { IfOk result (λ c. c ≡ streams.claims_for store_id conf.now debt.now.number debt.now.time
+        (facts.updated_news conf.now.stream status reason.now)) }
+{
+    let news = updated_news(alloc, &conf.stream, status, reason)?;
+    claims_for(alloc, store_id, conf, debt.number, debt.time, &news)
 }
 
 // Where a stream's tokens are sent; nowhere where the receiver asks for them.
@@ -176,12 +205,14 @@ pub fn owed_token(
     ensures { IfOk result (λ t. t ≡ streams.token_of account.now.owing.stream.conf.delivery (made_of store_id published.now account.now.owing.stream debt.now)) }
 {
     let conf = account.conf();
-    let claims = owed_claims(alloc, store_id, published, conf, debt)?;
+    let stream = conf.stream.copy(alloc)?;
+    let endpoint = endpoint_in(alloc, &conf.delivery)?;
+    let authorization = authorization_in(alloc, &conf.delivery)?;
     Ok(Token {
-        stream: conf.stream.copy(alloc)?,
+        stream,
         number: debt.number,
-        claims,
-        endpoint: endpoint_in(alloc, &conf.delivery)?,
-        authorization: authorization_in(alloc, &conf.delivery)?,
+        claims: owed_claims(alloc, store_id, published, conf, debt)?,
+        endpoint,
+        authorization,
     })
 }

@@ -28,13 +28,16 @@ fn one_event(alloc: Global, event: Event) -> Result<Items<Event>, Memory>
 fn shared_claims(alloc: Global, store_id: [u8; 16], time: u64, news: News) -> Result<Claims, Memory>
     ensures { IfOk result (λ c. c ≡ bytes.shared_claims store_id time news) }
 {
+    let News { subject, event } = news;
+    let events = one_event(alloc, event)?;
+    let jti = jti_text(alloc, store_id, "", 0)?;
     Ok(Claims {
         iss: Text::from_string(String::new(alloc)),
-        jti: jti_text(alloc, store_id, "", 0)?,
+        jti,
         iat: time,
         aud: Items::of(Vec::new(alloc)),
-        subject: news.subject,
-        events: one_event(alloc, news.event)?,
+        subject,
+        events,
     })
 }
 

@@ -12,8 +12,6 @@ mod event;
 mod event_type;
 pub mod laws;
 mod reading;
-#[cfg(test)]
-mod tests;
 mod threads;
 mod writing;
 

@@ -104,17 +104,17 @@ fn named_header(alloc: Global, kid: &str) -> Result<Value, Memory>
 fn payload_value(alloc: Global, claims: &Claims) -> Result<Value, Memory>
     ensures { IfOk result (λ value. view value ≡ payload_of claims.now) }
 {
-    let audience = audience_value(alloc, claims.aud.as_slice())?;
-    let events = events_value(alloc, claims.events.as_slice())?;
-    let iss = text_value(alloc, &claims.iss)?;
-    let jti = text_value(alloc, &claims.jti)?;
-    let subject = sig_subject::to_json(alloc, &claims.subject)?;
     let mut payload = Map::new(alloc);
+    let audience = audience_value(alloc, claims.aud.as_slice())?;
     put_value(alloc, &mut payload, "aud", audience)?;
+    let events = events_value(alloc, claims.events.as_slice())?;
     put_value(alloc, &mut payload, "events", events)?;
     put_value(alloc, &mut payload, "iat", Value::from(claims.iat))?;
+    let iss = text_value(alloc, &claims.iss)?;
     put_value(alloc, &mut payload, "iss", iss)?;
+    let jti = text_value(alloc, &claims.jti)?;
     put_value(alloc, &mut payload, "jti", jti)?;
+    let subject = sig_subject::to_json(alloc, &claims.subject)?;
     put_value(alloc, &mut payload, "sub_id", without_fraction(subject))?;
     Ok(Value::Object(payload))
 }

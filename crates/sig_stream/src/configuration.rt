@@ -35,20 +35,20 @@ fn fixed_members(
 ) -> Result<Map<String, Value>, Memory>
     ensures { IfOk result (λ ms. members_view ms.entries ≡ spec.fixed_members conf.now base.now) }
 {
-    let audience = audience_value(alloc, conf.aud.as_slice())?;
-    let delivery = delivery_value(alloc, conf, base)?;
-    let delivered = delivered_value(alloc, &conf.requested)?;
-    let supported = supported_value(alloc)?;
-    let iss = text_value(alloc, conf.iss.as_str())?;
-    let stream = text_value(alloc, conf.stream.as_str())?;
     let mut members = Map::new(alloc);
+    let audience = audience_value(alloc, conf.aud.as_slice())?;
     put_value(alloc, &mut members, "aud", audience)?;
+    let delivery = delivery_value(alloc, conf, base)?;
     put_value(alloc, &mut members, "delivery", delivery)?;
+    let delivered = delivered_value(alloc, &conf.requested)?;
     put_value(alloc, &mut members, "events_delivered", delivered)?;
+    let supported = supported_value(alloc)?;
     put_value(alloc, &mut members, "events_supported", supported)?;
+    let iss = text_value(alloc, conf.iss.as_str())?;
     put_value(alloc, &mut members, "iss", iss)?;
     let interval = Value::from(conf.interval);
     put_value(alloc, &mut members, "min_verification_interval", interval)?;
+    let stream = text_value(alloc, conf.stream.as_str())?;
     put_value(alloc, &mut members, "stream_id", stream)?;
     Ok(members)
 }

@@ -1,7 +1,9 @@
 //! How a client reads and sets the status of a stream (Shared Signals Framework 1.0, section 8.1.2).
 
-ghost use Rattle.std.specs.Prelude.{◌≡◌, IfOk, IfSome, option_map};
+ghost use Rattle.std.specs.Prelude.{◌≡◌, IfOk, IfSome, None, false, option_map};
 ghost use Rattle.sig_json.specs.Answers.{Answers, result_map};
+ghost use Rattle.sig_terms.specs.declared.answer.Answer.TheVariants as answer;
+ghost use Rattle.sig_terms.specs.declared.fact.Fact.TheVariants as fact;
 ghost use Rattle.sig_history.specs.Streams.{Stream};
 ghost use Rattle.sig_calls.specs.Statuses as table;
 ghost use Rattle.sig_calls.specs.Found.{told_by};
@@ -62,22 +64,37 @@ fn set_turn(
     if account.status() == wished.status {
         return Ok(Turn::only(state_of(alloc, account, stream)?));
     }
-    let answer = Answer::State {
-        stream: stream.copy(alloc)?,
+    let answer = state_set(alloc, stream, wished)?;
+    Ok(Turn {
+        answer,
+        change: Some(status_set(alloc, stream, wished)?),
+    })
+}
+
+// What is answered where a status is set.
+fn state_set(alloc: Global, stream: &Text, wished: &Wished<'_>) -> Result<Answer, Memory>
+    ensures { IfOk result (λ a. a ≡ answer.State stream.now wished.now.status wished.now.reason.now None) }
+{
+    let stream = stream.copy(alloc)?;
+    Ok(Answer::State {
+        stream,
         status: wished.status,
         reason: copy_optional(alloc, wished.reason)?,
         token: None,
-    };
-    let fact = Fact::StatusSet {
-        stream: stream.copy(alloc)?,
+    })
+}
+
+// The fact that a client set a status.
+fn status_set(alloc: Global, stream: &Text, wished: &Wished<'_>) -> Result<Fact, Memory>
+    ensures { IfOk result (λ f. f ≡ fact.StatusSet stream.now wished.now.status wished.now.reason.now false wished.now.time) }
+{
+    let stream = stream.copy(alloc)?;
+    Ok(Fact::StatusSet {
+        stream,
         status: wished.status,
         reason: copy_optional(alloc, wished.reason)?,
         operator: false,
         time: wished.time,
-    };
-    Ok(Turn {
-        answer,
-        change: Some(fact),
     })
 }
 

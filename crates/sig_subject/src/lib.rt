@@ -20,8 +20,6 @@ mod simple;
 mod simple_reading;
 mod subject;
 mod subject_fault;
-#[cfg(test)]
-mod tests;
 mod threads;
 mod writing;
 

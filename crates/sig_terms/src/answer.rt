@@ -1,10 +1,10 @@
 ghost use Rattle.std.specs.Prelude.{◌≡◌, IfOk};
 
 use crate::comparing::{same_member, same_variant};
-use crate::copying::{copy_member, copy_variant};
+use crate::copying::{copy_one, copy_one_with, copy_variant};
 use crate::{Issued, StreamConf, Token};
 use sig_event::Status;
-use sig_json::{Copied, Items, Memory, Same, Text, copy_items, copy_optional};
+use sig_json::{Copied, Items, Memory, Same, Text, copy_items};
 use std::alloc::Global;
 
 /// What the transmitter answers to a call.
@@ -107,18 +107,16 @@ impl Answer {
     {
         copy_variant!(self, alloc, Answer {
             Meta, Gone, Added, Removed, NotFound, TooMany, Conflict, Disabled;
-            Made { conf: copied },
-            Conf { conf: copied },
-            Confs { confs: copy_items },
-            State { stream: copied, status: plain, reason: copy_optional, token: plain },
-            Asked { stream: copied, number: plain },
-            Sets { tokens: copy_items, more: plain },
-            Published { store_id: plain, tokens: copy_items },
-            Delivering { stream: copied },
-            Handed { tokens: copy_items },
-            Settled { count: plain },
-            Early { until: plain },
-            Long { size: plain },
+            Settled { count }, Early { until }, Long { size };
+            Made: copy_one(conf),
+            Conf: copy_one(conf),
+            Confs: copy_items(confs),
+            State: copy_one_with(stream, reason) plain(status, token),
+            Asked: copy_one(stream) plain(number),
+            Sets: copy_items(tokens) plain(more),
+            Published: copy_items(tokens) plain(store_id),
+            Delivering: copy_one(stream),
+            Handed: copy_items(tokens),
         })
     }
 }

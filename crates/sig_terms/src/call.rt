@@ -2,9 +2,9 @@ ghost use Rattle.std.specs.Prelude.{◌≡◌, IfOk};
 
 use crate::Want;
 use crate::comparing::{same_member, same_variant};
-use crate::copying::{copy_member, copy_variant};
+use crate::copying::{copy_one, copy_one_with, copy_three, copy_two, copy_two_with, copy_variant};
 use sig_event::{News, Status};
-use sig_json::{Copied, Items, Memory, Same, Text, copy_items, copy_optional};
+use sig_json::{Copied, Items, Memory, Same, Text, copy_items};
 use sig_subject::Subject;
 use std::alloc::Global;
 
@@ -188,24 +188,24 @@ impl Call {
         ensures { IfOk result (λ c. c ≡ self.now) }
     {
         copy_variant!(self, alloc, Call {
-            Metadata;
-            Create { client: copied, want: copied },
-            ReadAll { client: copied },
-            Read { client: copied, stream: copied },
-            Patch { client: copied, stream: copied, want: copied },
-            Put { client: copied, stream: copied, want: copied },
-            Delete { client: copied, stream: copied },
-            GetStatus { client: copied, stream: copied },
-            SetStatus { client: copied, stream: copied, status: plain, reason: copy_optional },
-            Add { client: copied, stream: copied, subject: copied },
-            Remove { client: copied, stream: copied, subject: copied },
-            Verify { client: copied, stream: copied, state: copy_optional },
-            Poll { client: copied, stream: copied, ask: copied },
-            Publish { id: copied, news: copied },
-            OperatorStatus { stream: copied, status: plain, reason: copy_optional },
-            Deliver { stream: copied },
-            Hand { streams: copy_items },
-            Settle { stream: copied, number: plain, outcome: copied },
+            Metadata;;
+            Create: copy_two(client, want),
+            ReadAll: copy_one(client),
+            Read: copy_two(client, stream),
+            Patch: copy_three(client, stream, want),
+            Put: copy_three(client, stream, want),
+            Delete: copy_two(client, stream),
+            GetStatus: copy_two(client, stream),
+            SetStatus: copy_two_with(client, stream, reason) plain(status),
+            Add: copy_three(client, stream, subject),
+            Remove: copy_three(client, stream, subject),
+            Verify: copy_two_with(client, stream, state),
+            Poll: copy_three(client, stream, ask),
+            Publish: copy_two(id, news),
+            OperatorStatus: copy_one_with(stream, reason) plain(status),
+            Deliver: copy_one(stream),
+            Hand: copy_items(streams),
+            Settle: copy_two(stream, outcome) plain(number),
         })
     }
 }
@@ -296,8 +296,8 @@ impl Outcome {
         ensures { IfOk result (λ o. o ≡ self.now) }
     {
         copy_variant!(self, alloc, Outcome {
-            Accepted, Keep;
-            Reported { code: copied },
+            Accepted, Keep;;
+            Reported: copy_one(code),
         })
     }
 }

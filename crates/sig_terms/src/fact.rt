@@ -1,7 +1,7 @@
 ghost use Rattle.std.specs.Prelude.{◌≡◌, IfOk};
 
 use crate::comparing::{same_member, same_variant};
-use crate::copying::{copy_member, copy_optional_items, copy_variant};
+use crate::copying::{copy_one, copy_one_with, copy_optional_items, copy_two, copy_variant};
 use crate::{Delivery, StreamConf};
 use sig_event::{News, Status};
 use sig_json::{Copied, Items, Memory, Same, Text, copy_items, copy_optional};
@@ -94,18 +94,46 @@ impl Fact {
         ensures { IfOk result (λ f. f ≡ self.now) }
     {
         copy_variant!(self, alloc, Fact {
-            ;
-            Created { conf: copied, time: plain },
-            Configured { stream: copied, requested: copy_optional_items, delivery: copied, description: copy_optional },
-            StatusSet { stream: copied, status: plain, reason: copy_optional, operator: plain, time: plain },
-            Listed { stream: copied, subject: copied },
-            Unlisted { stream: copied, subject: copied },
-            Deleted { stream: copied },
-            Published { id: copied, news: copied, time: plain },
-            Settled { stream: copied, items: copy_items },
-            Asked { stream: copied, state: copy_optional, time: plain },
+            ;;
+            Created: copy_one(conf) plain(time),
+            Configured: copy_configuring(stream, requested, delivery, description),
+            StatusSet: copy_one_with(stream, reason) plain(status, operator, time),
+            Listed: copy_two(stream, subject),
+            Unlisted: copy_two(stream, subject),
+            Deleted: copy_one(stream),
+            Published: copy_two(id, news) plain(time),
+            Settled: copy_settling(stream, items),
+            Asked: copy_one_with(stream, state) plain(time),
         })
     }
+}
+
+// The parts of a stream that was configured.
+fn copy_configuring(
+    alloc: Global,
+    stream: &Text,
+    requested: &Option<Items<Text>>,
+    delivery: &Delivery,
+    description: &Option<Text>,
+) -> Result<(Text, Option<Items<Text>>, Delivery, Option<Text>), Memory>
+    ensures { IfOk result (λ c. c ≡ (stream.now, requested.now, delivery.now, description.now)) }
+{
+    let stream = stream.copy(alloc)?;
+    let requested = copy_optional_items(alloc, requested)?;
+    let description = copy_optional(alloc, description)?;
+    Ok((stream, requested, delivery.copy(alloc)?, description))
+}
+
+// The parts of tokens that are owed no more.
+fn copy_settling(
+    alloc: Global,
+    stream: &Text,
+    items: &Items<SettledItem>,
+) -> Result<(Text, Items<SettledItem>), Memory>
+    ensures { IfOk result (λ c. c ≡ (stream.now, items.now)) }
+{
+    let stream = stream.copy(alloc)?;
+    Ok((stream, copy_items(alloc, items)?))
 }
 
 impl Copied for Fact {

@@ -58,12 +58,15 @@ impl Token {
     pub fn copy(&self, alloc: Global) -> Result<Token, Memory>
         ensures { IfOk result (λ t. t ≡ self.now) }
     {
+        let stream = self.stream.copy(alloc)?;
+        let endpoint = copy_optional(alloc, &self.endpoint)?;
+        let authorization = copy_optional(alloc, &self.authorization)?;
         Ok(Token {
-            stream: self.stream.copy(alloc)?,
+            stream,
             number: self.number,
             claims: self.claims.copy(alloc)?,
-            endpoint: copy_optional(alloc, &self.endpoint)?,
-            authorization: copy_optional(alloc, &self.authorization)?,
+            endpoint,
+            authorization,
         })
     }
 }

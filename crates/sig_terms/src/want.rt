@@ -3,7 +3,7 @@ ghost use Rattle.sig_terms.specs.Deliveries as deliveries;
 
 use crate::Endpoint;
 use crate::comparing::{same_member, same_variant};
-use crate::copying::{copy_member, copy_optional_items, copy_variant};
+use crate::copying::{copy_optional_items, copy_two_with, copy_variant};
 use sig_json::{Copied, Items, Memory, Same, Text, copy_optional};
 use std::alloc::Global;
 
@@ -55,8 +55,8 @@ impl Delivery {
         ensures { IfOk result (λ d. d ≡ self.now) }
     {
         copy_variant!(self, alloc, Delivery {
-            Poll;
-            Push { endpoint: copied, url: copied, authorization: copy_optional },
+            Poll;;
+            Push: copy_two_with(endpoint, url, authorization),
         })
     }
 }

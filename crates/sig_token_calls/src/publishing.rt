@@ -12,7 +12,7 @@ ghost use Rattle.sig_ledger.specs.Steps.{reply_in};
 ghost use Rattle.sig_token_calls.specs.Replies.{later_answer};
 
 use sig_event::{News, event_text};
-use sig_json::{Memory, Text, copy_items};
+use sig_json::{Memory, Text};
 use sig_ledger::{Ledger, Publication, Step};
 use sig_making::make;
 use sig_subject::identical;
@@ -43,7 +43,7 @@ fn answer_again(
     if !is_same(alloc, publication.news(), news)? {
         return Ok(Answer::Conflict);
     }
-    let tokens = copy_items(alloc, publication.issued())?;
+    let tokens = publication.issued(alloc)?;
     Ok(Answer::Published { store_id, tokens })
 }
 

@@ -51,7 +51,10 @@ impl Ledger {
                 requested,
                 delivery,
                 description,
-            } => self.configure(&stream, requested, delivery, description),
+            } => {
+                drop(spare);
+                self.configure(&stream, requested, delivery, description);
+            }
             Fact::StatusSet {
                 stream,
                 status,
@@ -62,16 +65,31 @@ impl Ledger {
                 let notice = notice_of(status, spare, operator, time);
                 self.set_status(&stream, status, reason, notice);
             }
-            Fact::Listed { stream, subject } => self.list(&stream, subject),
-            Fact::Unlisted { stream, subject } => self.unlist(&stream, &subject),
-            Fact::Deleted { stream } => self.delete(&stream),
+            Fact::Listed { stream, subject } => {
+                drop(spare);
+                self.list(&stream, subject);
+            }
+            Fact::Unlisted { stream, subject } => {
+                drop(spare);
+                self.unlist(&stream, &subject);
+            }
+            Fact::Deleted { stream } => {
+                drop(spare);
+                self.delete(&stream);
+            }
             Fact::Published { id, news, time } => self.publish(id, news, time, spare),
-            Fact::Settled { stream, .. } => self.settle(&stream, &spare.into_numbers()),
+            Fact::Settled { stream, items } => {
+                self.settle(&stream, &spare.into_numbers());
+                drop(items);
+            }
             Fact::Asked {
                 stream,
                 state,
                 time,
-            } => self.verify(&stream, state, time),
+            } => {
+                drop(spare);
+                self.verify(&stream, state, time);
+            }
         }
     }
 
@@ -81,9 +99,9 @@ impl Ledger {
         requires room { (time : ℕ) → HasRoom (sum_in self.old.books).parts self.old.room (record { fact = Created conf time; spare = spare }) }
         ensures { (time : ℕ) → sum_in self.new.books ≡ sum_of (sum_in self.old.books) (Created conf time ∷ []) }
     {
-        let client = spare.into_client();
+        let (client, name) = spare.into_names();
         let number = created_by(self.created.as_slice(), &client) + 1;
-        let account = Account::open(self.alloc, number, conf);
+        let account = Account::open(self.alloc, number, conf, name);
         put_account(&mut self.accounts, account);
         count_one(&mut self.created, client);
     }

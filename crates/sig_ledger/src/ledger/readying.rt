@@ -8,7 +8,10 @@ use crate::ledger::Ledger;
 use crate::prepared::{Prepared, Spare};
 use crate::step::Step;
 use indexmap::IndexSet;
-use sig_accounts::{client_in, issued_on, reserve_place, reserve_subjects, reserve_tokens};
+use sig_accounts::{
+    KeptToken, SharedName, client_in, issued_on, reserve_place, reserve_subjects, reserve_tokens,
+    tokens_issued,
+};
 use sig_json::{Items, Memory, Text, copy_optional};
 use sig_terms::{Answer, Fact, Issued, SettledItem};
 use std::alloc::Global;
@@ -21,8 +24,16 @@ impl Ledger {
     ghost use Rattle.sig_history.specs.Facts.{is_told};
     ghost use Rattle.sig_ledger.specs.Steps.{reply_in};
 
-    /// The tokens that a fact makes, by stream and number.
+    /// The tokens that a fact makes, by stream and number, each with a text of its own.
     pub fn issued_of(&self, fact: &Fact) -> Result<Items<Issued>, Memory>
+        ensures { IfOk result (λ items. items ≡ map issued_of (made_by (sum_in self.now.books).parts fact.now)) }
+    {
+        let kept = self.kept_of(fact)?;
+        tokens_issued(self.alloc, &kept)
+    }
+
+    // The tokens that a fact makes, as they are kept of a publication.
+    fn kept_of(&self, fact: &Fact) -> Result<Items<KeptToken>, Memory>
         ensures { IfOk result (λ items. items ≡ map issued_of (made_by (sum_in self.now.books).parts fact.now)) }
     {
         issued_on(self.alloc, self.accounts.as_slice(), fact)
@@ -66,7 +77,8 @@ impl Ledger {
         match fact {
             Fact::Created { conf, .. } => {
                 let client = Text::of(alloc, client_in(conf.stream.as_str()))?;
-                Ok(Spare::for_client(alloc, client))
+                let name = SharedName::of(alloc, conf.stream.copy(alloc)?)?;
+                Ok(Spare::for_stream(alloc, client, name))
             }
             Fact::StatusSet { reason, .. } => {
                 let reason = copy_optional(alloc, reason)?;
@@ -74,7 +86,7 @@ impl Ledger {
             }
             Fact::Published { id, .. } => {
                 let id = id.copy(alloc)?;
-                let issued = self.issued_of(fact)?;
+                let issued = self.kept_of(fact)?;
                 Ok(Spare::for_tokens(alloc, id, issued))
             }
             Fact::Settled { items, .. } => {

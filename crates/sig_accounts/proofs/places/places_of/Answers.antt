@@ -1,4 +1,4 @@
-use Rattle.std.proofs.Common.{◌≡◌, ◌∙◌, bytes_eq, arith, rules}
+use Rattle.std.proofs.Common.{◌∙◌, bytes_eq, arith, rules}
 use Rattle.indexmap.specs.IndexMap.{get}
 use Rattle.sig_accounts.proofs.PlaceLemmas.{index_more}
 use Rattle.sig_accounts.proofs.places.places_of.Goals as goal

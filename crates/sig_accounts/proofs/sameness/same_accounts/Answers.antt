@@ -1,4 +1,4 @@
-use Rattle.std.proofs.Common.{◌≡◌, ◌∙◌, sym, List, map, true, arith, refl, rules}
+use Rattle.std.proofs.Common.{◌≡◌, ◌∙◌, sym, map, true, arith, refl, rules}
 use Rattle.sig_accounts.specs.Owings.{Balance, Telling, telling_of}
 use Rattle.sig_accounts.proofs.SameLemmas.{alike_all, alike_at, alike_length, placed_at, told_twice}
 use Rattle.sig_accounts.proofs.sameness.same_accounts.Goals as goal

@@ -1,4 +1,4 @@
-use Rattle.std.proofs.Common.{◌≡◌, ◌≤◌, drop, nat_le}
+use Rattle.std.proofs.Common.{◌≡◌, drop, nat_le}
 use Rattle.sig_history.specs.Sizes.{bytes_of}
 use Rattle.sig_history.specs.declared.limits.TheConstants.{SETTING_BYTES}
 use Rattle.sig_ledger.proofs.sizes.are_within.Given as goal

@@ -2,22 +2,12 @@ use Rattle.std.proofs.Common.{◌≡◌, not, rules}
 use Rattle.std.proofs.lemmas.Fn.{filter_same}
 use Rattle.sig_subject.specs.Matching.{is_identical}
 use Rattle.sig_subject.specs.declared.subject.Subject.{Subject}
-use Rattle.sig_history.specs.Streams.{Stream, client_in, list_removed}
+use Rattle.sig_history.specs.Streams.{list_removed}
 use Rattle.sig_accounts.proofs.BalanceLemmas.{unlisted_once}
 use Rattle.sig_accounts.proofs.account.Account.unlist.Goals as goal
 
 pub returns : goal.returns
 returns c =
-    let s : Stream = record {
-      client = client_in c.self.inside.conf.stream;
-      number = c.self.inside.number;
-      conf = c.self.inside.conf;
-      status = c.self.inside.status;
-      reason = c.self.inside.reason;
-      listed = c.self.inside.listed.items;
-      asked = c.self.inside.asked;
-      made = c.self.inside.made;
-    } in
     let left : c.retain.new.self.items ≡ list_removed c.args.subject.now c.self.inside.listed.items =
     filter_same _ (λ (l : Subject). not (is_identical c.args.subject.now l)) _ (λ x b f' k. search rules) _ _ c.retain.ensures.filtered in
-    unlisted_once c.args.subject.now c.args.self.now s c.self.inside.owed.items c.retain.new.self.items _ _ c.self.view_is left
+    unlisted_once c.args.subject.now c.args.self.now _ c.self.inside.owed.items c.retain.new.self.items _ _ c.self.view_is left

@@ -41,72 +41,66 @@ enter_place-requires c =
     let some : 0 < c.args.self.now.room.ids = c.requires.room.space.1 in
     omega (arith, some, ap (λ (h : Held). h.room.ids) c.self.view_is)
 
-pub invariant_of-self : goal.invariant_of-self
-invariant_of-self c =
-    let b : Books = books_in c.self.inside.store_id c.self.inside.accounts.items c.self.inside.created.items c.self.inside.published.items in
-    let f : Fact = Published c.args.id c.args.news c.args.time in
-    let fits : Fits (sum_in b) f = subst (λ (h : Held). Fits (sum_in h.books) f) (sym c.self.view_is) c.requires.fits in
-    let w : Said = said.Published (length c.self.inside.published.items) in
-    let q : Publication = record { id = c.args.id; news = c.args.news; issued = map issued_of (made_by (sum_in b).parts f) } in
-    let may : MayTake b f w = may_publish b c.args.id c.args.news c.args.time c.self.invariant.0 fits in
-    let place : c.len-place.result ≡ length c.self.inside.published.items = omega (arith, c.len-place.ensures, c.self.inside.published.ok) in
-    let heard : map owing_in (take c.self.inside.accounts.len (c.hear_all.new.accounts ++ drop (length c.hear_all.new.accounts) c.self.inside.accounts.items))
-    ≡ map (owing_after f w) b.owings =
-    ap (map owing_in) (refilled c.self.inside.accounts.len c.hear_all.new.accounts c.self.inside.accounts.items (omega (arith, c.hear_all.auto.accounts, c.as_mut_slice.ensures.len)))
-    ∙ c.hear_all.ensures
-    ∙ ap (λ (bs : List Balance). map (owing_heard c.args.news c.args.time c.len-place.result) (map owing_in bs)) c.as_mut_slice.ensures.value
-    ∙ ap (λ (n : ℕ). map (owing_heard c.args.news c.args.time n) b.owings) place
-    ∙ heard_all c.args.id c.args.news c.args.time (length c.self.inside.published.items) b.owings in
+-- the books before, the fact, and what the tokens say
+abbrev before : goal.Joined-push → Books
+before c = books_in c.self.inside.store_id c.self.inside.accounts.items c.self.inside.created.items c.self.inside.published.items
+
+abbrev told : goal.Joined-push → Fact
+told c = Published c.args.id c.args.news c.args.time
+
+abbrev says : goal.Joined-push → Said
+says c = said.Published (length c.self.inside.published.items)
+
+abbrev new : goal.Joined-push → Publication
+new c = record { id = c.args.id; news = c.args.news; issued = map issued_of (made_by (sum_in (before c)).parts (told c)) }
+
+may : (c : goal.Joined-push) → MayTake (before c) (told c) (says c)
+may c = may_publish (before c) c.args.id c.args.news c.args.time c.self.invariant.0 (subst (λ (h : Held). Fits (sum_in h.books) (told c)) (sym c.self.view_is) c.requires.fits)
+
+place : (c : goal.Joined-push) → c.len-place.result ≡ length c.self.inside.published.items
+place c = omega (arith, c.len-place.ensures, c.self.inside.published.ok)
+
+kept : (c : goal.Joined-push) → c.push.new.self.items ≡ c.self.inside.published.items ++ new c ∷ []
+kept c =
     let some : 0 < c.args.self.now.room.published = c.requires.room.space.0 in
     let room : vec_len c.self.inside.published < vec_capacity c.self.inside.published = omega (arith, some, ap (λ (h : Held). h.room.published) c.self.view_is) in
     let ok : IsOk c.push.result = c.push.ensures.succeeds room in
-    let issued : c.into_tokens-key.result.1 ≡ q.issued =
-    c.into_tokens-key.ensures.issued ∙ c.requires.room.spare.1 ∙ ap (λ (h : Held). map issued_of (made_by (sum_in h.books).parts f)) (sym c.self.view_is) in
-    let kept : c.push.new.self.items ≡ c.self.inside.published.items ++ q ∷ [] =
+    let issued : c.into_tokens-key.result.1 ≡ (new c).issued =
+    c.into_tokens-key.ensures.issued ∙ c.requires.room.spare.1 ∙ ap (λ (h : Held). map issued_of (made_by (sum_in h.books).parts (told c))) (sym c.self.view_is) in
     c.push.ensures.items
     ∙ ap (λ t. if t then c.self.inside.published.items ++ c.of.result ∷ [] else c.self.inside.published.items) ok
     ∙ ap (λ (p : Publication). c.self.inside.published.items ++ p ∷ []) c.of.ensures
-    ∙ ap (λ (l : List Issued). c.self.inside.published.items ++ record { id = c.args.id; news = c.args.news; issued = l } ∷ []) issued in
+    ∙ ap (λ (l : List Issued). c.self.inside.published.items ++ record { id = c.args.id; news = c.args.news; issued = l } ∷ []) issued
+
+-- the books then have the publication and its tokens
+published : (c : goal.Joined-push) → record {
+  store_id = c.self.inside.store_id;
+  owings = map owing_in (take c.self.inside.accounts.len (c.hear_all.new.accounts ++ drop (length c.hear_all.new.accounts) c.self.inside.accounts.items));
+  created = c.self.inside.created.items;
+  published = c.push.new.self.items;
+}
+    ≡ taken (before c) (told c) (says c)
+published c =
+    let heard : map owing_in (take c.self.inside.accounts.len (c.hear_all.new.accounts ++ drop (length c.hear_all.new.accounts) c.self.inside.accounts.items))
+    ≡ map (owing_after (told c) (says c)) (before c).owings =
+    ap (map owing_in) (refilled c.self.inside.accounts.len c.hear_all.new.accounts c.self.inside.accounts.items (omega (arith, c.hear_all.auto.accounts, c.as_mut_slice.ensures.len)))
+    ∙ c.hear_all.ensures
+    ∙ ap (λ (bs : List Balance). map (owing_heard c.args.news c.args.time c.len-place.result) (map owing_in bs)) c.as_mut_slice.ensures.value
+    ∙ ap (λ (n : ℕ). map (owing_heard c.args.news c.args.time n) (before c).owings) (place c)
+    ∙ heard_all c.args.id c.args.news c.args.time (length c.self.inside.published.items) (before c).owings in
     let with : List Owing → List Publication → Books = λ os ps. record { store_id = c.self.inside.store_id; owings = os; created = c.self.inside.created.items; published = ps } in
-    let is : with (map owing_in (take c.self.inside.accounts.len (c.hear_all.new.accounts ++ drop (length c.hear_all.new.accounts) c.self.inside.accounts.items))) c.push.new.self.items
-    ≡ taken b f w =
-    ap (λ l. with l c.push.new.self.items) heard ∙ ap (with (map (owing_after f w) b.owings)) kept in
+    ap (λ l. with l c.push.new.self.items) heard ∙ ap (with (map (owing_after (told c) (says c)) (before c).owings)) (kept c)
+
+pub invariant_of-self : goal.invariant_of-self
+invariant_of-self c =
     let key : c.into_tokens-key.result.0 ≡ c.args.id = c.into_tokens-key.ensures.id ∙ c.requires.room.spare.0 in
-    let indexed : IsIndex (get bytes_eq c.enter_place.new.places) (c.self.inside.published.items ++ q ∷ []) =
-    index_after (get bytes_eq c.self.inside.places) (get bytes_eq c.enter_place.new.places) c.self.inside.published.items q c.self.invariant.1
+    let indexed : IsIndex (get bytes_eq c.enter_place.new.places) (c.self.inside.published.items ++ new c ∷ []) =
+    index_after (get bytes_eq c.self.inside.places) (get bytes_eq c.enter_place.new.places) c.self.inside.published.items (new c) c.self.invariant.1
     (λ other. c.enter_place.ensures other
-    ∙ ap (λ (n : ℕ). with_first c.into_tokens-key.result.0 n other (get bytes_eq c.self.inside.places other)) place
+    ∙ ap (λ (n : ℕ). with_first c.into_tokens-key.result.0 n other (get bytes_eq c.self.inside.places other)) (place c)
     ∙ ap (λ (k : List ℕ). with_first k (length c.self.inside.published.items) other (get bytes_eq c.self.inside.places other)) key) in
-    (subst AreKept (sym is) (taken_kept b f w may), subst (IsIndex (get bytes_eq c.enter_place.new.places)) (sym kept) indexed)
+    (subst AreKept (sym (published c)) (taken_kept (before c) (told c) (says c) (may c)), subst (IsIndex (get bytes_eq c.enter_place.new.places)) (sym (kept c)) indexed)
 
 pub returns : goal.returns
 returns c =
-    let b : Books = books_in c.self.inside.store_id c.self.inside.accounts.items c.self.inside.created.items c.self.inside.published.items in
-    let f : Fact = Published c.args.id c.args.news c.args.time in
-    let fits : Fits (sum_in b) f = subst (λ (h : Held). Fits (sum_in h.books) f) (sym c.self.view_is) c.requires.fits in
-    let w : Said = said.Published (length c.self.inside.published.items) in
-    let q : Publication = record { id = c.args.id; news = c.args.news; issued = map issued_of (made_by (sum_in b).parts f) } in
-    let may : MayTake b f w = may_publish b c.args.id c.args.news c.args.time c.self.invariant.0 fits in
-    let place : c.len-place.result ≡ length c.self.inside.published.items = omega (arith, c.len-place.ensures, c.self.inside.published.ok) in
-    let heard : map owing_in (take c.self.inside.accounts.len (c.hear_all.new.accounts ++ drop (length c.hear_all.new.accounts) c.self.inside.accounts.items))
-    ≡ map (owing_after f w) b.owings =
-    ap (map owing_in) (refilled c.self.inside.accounts.len c.hear_all.new.accounts c.self.inside.accounts.items (omega (arith, c.hear_all.auto.accounts, c.as_mut_slice.ensures.len)))
-    ∙ c.hear_all.ensures
-    ∙ ap (λ (bs : List Balance). map (owing_heard c.args.news c.args.time c.len-place.result) (map owing_in bs)) c.as_mut_slice.ensures.value
-    ∙ ap (λ (n : ℕ). map (owing_heard c.args.news c.args.time n) b.owings) place
-    ∙ heard_all c.args.id c.args.news c.args.time (length c.self.inside.published.items) b.owings in
-    let some : 0 < c.args.self.now.room.published = c.requires.room.space.0 in
-    let room : vec_len c.self.inside.published < vec_capacity c.self.inside.published = omega (arith, some, ap (λ (h : Held). h.room.published) c.self.view_is) in
-    let ok : IsOk c.push.result = c.push.ensures.succeeds room in
-    let issued : c.into_tokens-key.result.1 ≡ q.issued =
-    c.into_tokens-key.ensures.issued ∙ c.requires.room.spare.1 ∙ ap (λ (h : Held). map issued_of (made_by (sum_in h.books).parts f)) (sym c.self.view_is) in
-    let kept : c.push.new.self.items ≡ c.self.inside.published.items ++ q ∷ [] =
-    c.push.ensures.items
-    ∙ ap (λ t. if t then c.self.inside.published.items ++ c.of.result ∷ [] else c.self.inside.published.items) ok
-    ∙ ap (λ (p : Publication). c.self.inside.published.items ++ p ∷ []) c.of.ensures
-    ∙ ap (λ (l : List Issued). c.self.inside.published.items ++ record { id = c.args.id; news = c.args.news; issued = l } ∷ []) issued in
-    let with : List Owing → List Publication → Books = λ os ps. record { store_id = c.self.inside.store_id; owings = os; created = c.self.inside.created.items; published = ps } in
-    let is : with (map owing_in (take c.self.inside.accounts.len (c.hear_all.new.accounts ++ drop (length c.hear_all.new.accounts) c.self.inside.accounts.items))) c.push.new.self.items
-    ≡ taken b f w =
-    ap (λ l. with l c.push.new.self.items) heard ∙ ap (with (map (owing_after f w) b.owings)) kept in
-    ap sum_in is ∙ taken_sum b f w may ∙ ap (λ (h : Held). sum_of (sum_in h.books) (f ∷ [])) c.self.view_is
+    ap sum_in (published c) ∙ taken_sum (before c) (told c) (says c) (may c) ∙ ap (λ (h : Held). sum_of (sum_in h.books) (told c ∷ [])) c.self.view_is

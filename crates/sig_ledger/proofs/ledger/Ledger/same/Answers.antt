@@ -1,4 +1,4 @@
-use Rattle.std.proofs.Common.{◌≡◌, sym}
+use Rattle.std.proofs.Common.{sym}
 use Rattle.sig_ledger.specs.Books.{Books}
 use Rattle.sig_ledger.proofs.SameBooks.{as_held, same_sum, sum_same}
 use Rattle.sig_ledger.proofs.ledger.Ledger.same.Goals as goal

@@ -2,7 +2,7 @@ use Rattle.std.proofs.Common.{◌∙◌, ap, sym, List, map}
 use Rattle.std.specs.List.{slice_get}
 use Rattle.sig_history.specs.Streams.{Stream}
 use Rattle.sig_accounts.specs.Owings.{Balance, Owing, owing_in}
-use Rattle.sig_ledger.specs.Books.{Books, sum_in}
+use Rattle.sig_ledger.specs.Books.{sum_in}
 use Rattle.sig_accounts.specs.Owings as books
 use Rattle.sig_ledger.specs.Room.{Held}
 use Rattle.sig_accounts.proofs.FoundLemmas.{book_streams}

@@ -1,4 +1,5 @@
-use Rattle.std.proofs.Common.{◌≡◌, ◌∙◌, ap, sym, subst, List, [], ◌∷◌, ℕ, ◌+◌, ◌<◌, map, arith}
+use Rattle.std.proofs.Common.{◌≡◌, ◌∙◌, ap, sym, subst, List, [], ◌∷◌, ℕ, ◌+◌, ◌<◌, Some, map, arith}
+use Rattle.std.specs.Prelude.{is_some}
 use Rattle.sig_history.specs.Streams.{Count, client_in, created_by, count_one}
 use Rattle.sig_history.specs.Facts.{new_stream}
 use Rattle.sig_history.specs.Owed.{sum_of}
@@ -13,12 +14,21 @@ use Rattle.sig_ledger.proofs.ChangedBooks.{books_in, nothing_said, put_owings, s
 use Rattle.sig_ledger.proofs.TakenBooks.{MayTake, taken_kept, taken_sum}
 use Rattle.sig_ledger.proofs.ledger.Ledger.take_stream.Goals as goal
 
+some_same : (a b : List ℕ) → Some a ≡ Some b → a ≡ b
+some_same a b same = cc
+
+pub into_names-client-requires : goal.into_names-client-requires
+into_names-client-requires c = ap is_some (c.requires.room 0).spare.1
+
+pub open-account-requires : goal.open-account-requires
+open-account-requires c = some_same _ _ (c.into_names-client.ensures.name ∙ (c.requires.room 0).spare.1)
+
 pub overflow_add-number : goal.overflow_add-number
 overflow_add-number c =
     let b : Books = books_in c.self.inside.store_id c.self.inside.accounts.items c.self.inside.created.items c.self.inside.published.items in
-    let name : c.into_client-client.result ≡ client_in c.args.conf.stream = c.into_client-client.ensures ∙ (c.requires.room 0).spare in
+    let name : c.into_names-client.result.0 ≡ client_in c.args.conf.stream = c.into_names-client.ensures.client ∙ (c.requires.room 0).spare.0 in
     let number : c.created_by-number.result ≡ created_by (client_in c.args.conf.stream) c.self.inside.created.items =
-    c.created_by-number.ensures ∙ ap (created_by c.into_client-client.result) c.as_slice.ensures.value
+    c.created_by-number.ensures ∙ ap (created_by c.into_names-client.result.0) c.as_slice.ensures.value
     ∙ ap (λ (n : List ℕ). created_by n c.self.inside.created.items) name in
     let fits : Fits (sum_in b) (Created c.args.conf 0) =
     subst (λ (h : Held). Fits (sum_in h.books) (Created c.args.conf 0)) (sym c.self.view_is) (c.requires.fits 0) in
@@ -38,20 +48,22 @@ count_one-requires-clause-room c =
 pub count_one-requires-clause-number : goal.count_one-requires-clause-number
 count_one-requires-clause-number c =
     let b : Books = books_in c.self.inside.store_id c.self.inside.accounts.items c.self.inside.created.items c.self.inside.published.items in
-    let name : c.into_client-client.result ≡ client_in c.args.conf.stream = c.into_client-client.ensures ∙ (c.requires.room 0).spare in
+    let name : c.into_names-client.result.0 ≡ client_in c.args.conf.stream = c.into_names-client.ensures.client ∙ (c.requires.room 0).spare.0 in
     let fits : Fits (sum_in b) (Created c.args.conf 0) =
     subst (λ (h : Held). Fits (sum_in h.books) (Created c.args.conf 0)) (sym c.self.view_is) (c.requires.fits 0) in
     let below : created_by (client_in c.args.conf.stream) c.self.inside.created.items < LAST_NUMBER = (fits_brings (sum_in b) (Created c.args.conf 0) fits).below in
-    let same : created_by c.into_client-client.result c.self.inside.created.items ≡ created_by (client_in c.args.conf.stream) c.self.inside.created.items =
+    let same : created_by c.into_names-client.result.0 c.self.inside.created.items ≡ created_by (client_in c.args.conf.stream) c.self.inside.created.items =
     ap (λ (n : List ℕ). created_by n c.self.inside.created.items) name in
     omega (arith, same)
 
-pub invariant_of-self : goal.invariant_of-self
-invariant_of-self c =
+-- the books then have the stream
+brought : (c : goal.After-count_one) → books_in c.self.inside.store_id c.put_account.new.accounts.items c.count_one.new.created.items c.self.inside.published.items
+    ≡ with_stream (books_in c.self.inside.store_id c.self.inside.accounts.items c.self.inside.created.items c.self.inside.published.items) c.args.conf
+brought c =
     let b : Books = books_in c.self.inside.store_id c.self.inside.accounts.items c.self.inside.created.items c.self.inside.published.items in
-    let name : c.into_client-client.result ≡ client_in c.args.conf.stream = c.into_client-client.ensures ∙ (c.requires.room 0).spare in
+    let name : c.into_names-client.result.0 ≡ client_in c.args.conf.stream = c.into_names-client.ensures.client ∙ (c.requires.room 0).spare.0 in
     let number : c.created_by-number.result ≡ created_by (client_in c.args.conf.stream) c.self.inside.created.items =
-    c.created_by-number.ensures ∙ ap (created_by c.into_client-client.result) c.as_slice.ensures.value
+    c.created_by-number.ensures ∙ ap (created_by c.into_names-client.result.0) c.as_slice.ensures.value
     ∙ ap (λ (n : List ℕ). created_by n c.self.inside.created.items) name in
     let put : map owing_in c.put_account.new.accounts.items ≡ put_owing (opened (stream_for b c.args.conf)) b.owings =
     ap (map owing_in) c.put_account.ensures ∙ put_owings c.open-account.result c.self.inside.accounts.items
@@ -60,37 +72,22 @@ invariant_of-self c =
     let counted : c.count_one.new.created.items ≡ count_one (client_in c.args.conf.stream) c.self.inside.created.items =
     c.count_one.ensures ∙ ap (λ (n : List ℕ). count_one n c.self.inside.created.items) name in
     let with : List Owing → List Count → Books = λ os cs. record { store_id = c.self.inside.store_id; owings = os; created = cs; published = c.self.inside.published.items } in
-    let is : with (map owing_in c.put_account.new.accounts.items) c.count_one.new.created.items ≡ with_stream b c.args.conf =
-    ap (λ l. with l c.count_one.new.created.items) put ∙ ap (with (put_owing (opened (stream_for b c.args.conf)) b.owings)) counted in
-    let may : (time : ℕ) → MayTake b (Created c.args.conf time) nothing_said = λ time. record {
-      kept = c.self.invariant.0;
-      fits = subst (λ (h : Held). Fits (sum_in h.books) (Created c.args.conf time)) (sym c.self.view_is) (c.requires.fits time);
-      says = λ s told. tt;
-      placed = tt;
-    } in
-    (subst AreKept (sym (is ∙ with_stream_is b c.args.conf 0)) (taken_kept b (Created c.args.conf 0) nothing_said (may 0)), c.self.invariant.1)
+    ap (λ l. with l c.count_one.new.created.items) put ∙ ap (with (put_owing (opened (stream_for b c.args.conf)) b.owings)) counted
+
+may_bring : (c : goal.After-count_one) (time : ℕ)
+    → MayTake (books_in c.self.inside.store_id c.self.inside.accounts.items c.self.inside.created.items c.self.inside.published.items) (Created c.args.conf time) nothing_said
+may_bring c time = record {
+  kept = c.self.invariant.0;
+  fits = subst (λ (h : Held). Fits (sum_in h.books) (Created c.args.conf time)) (sym c.self.view_is) (c.requires.fits time);
+  says = λ s told. tt;
+  placed = tt;
+}
+
+pub invariant_of-self : goal.invariant_of-self
+invariant_of-self c =
+    (subst AreKept (sym (brought c ∙ with_stream_is _ c.args.conf 0)) (taken_kept _ (Created c.args.conf 0) nothing_said (may_bring c 0)), c.self.invariant.1)
 
 pub returns : goal.returns
 returns c = λ time.
-    let b : Books = books_in c.self.inside.store_id c.self.inside.accounts.items c.self.inside.created.items c.self.inside.published.items in
-    let name : c.into_client-client.result ≡ client_in c.args.conf.stream = c.into_client-client.ensures ∙ (c.requires.room 0).spare in
-    let number : c.created_by-number.result ≡ created_by (client_in c.args.conf.stream) c.self.inside.created.items =
-    c.created_by-number.ensures ∙ ap (created_by c.into_client-client.result) c.as_slice.ensures.value
-    ∙ ap (λ (n : List ℕ). created_by n c.self.inside.created.items) name in
-    let put : map owing_in c.put_account.new.accounts.items ≡ put_owing (opened (stream_for b c.args.conf)) b.owings =
-    ap (map owing_in) c.put_account.ensures ∙ put_owings c.open-account.result c.self.inside.accounts.items
-    ∙ ap (λ (a : Balance). put_owing a.owing b.owings) c.open-account.ensures
-    ∙ ap (λ (k : ℕ). put_owing (opened (new_stream (client_in c.args.conf.stream) (k + 1) c.args.conf)) b.owings) number in
-    let counted : c.count_one.new.created.items ≡ count_one (client_in c.args.conf.stream) c.self.inside.created.items =
-    c.count_one.ensures ∙ ap (λ (n : List ℕ). count_one n c.self.inside.created.items) name in
-    let with : List Owing → List Count → Books = λ os cs. record { store_id = c.self.inside.store_id; owings = os; created = cs; published = c.self.inside.published.items } in
-    let is : with (map owing_in c.put_account.new.accounts.items) c.count_one.new.created.items ≡ with_stream b c.args.conf =
-    ap (λ l. with l c.count_one.new.created.items) put ∙ ap (with (put_owing (opened (stream_for b c.args.conf)) b.owings)) counted in
-    let may : (time : ℕ) → MayTake b (Created c.args.conf time) nothing_said = λ time. record {
-      kept = c.self.invariant.0;
-      fits = subst (λ (h : Held). Fits (sum_in h.books) (Created c.args.conf time)) (sym c.self.view_is) (c.requires.fits time);
-      says = λ s told. tt;
-      placed = tt;
-    } in
-    ap sum_in (is ∙ with_stream_is b c.args.conf time) ∙ taken_sum b (Created c.args.conf time) nothing_said (may time)
+    ap sum_in (brought c ∙ with_stream_is _ c.args.conf time) ∙ taken_sum _ (Created c.args.conf time) nothing_said (may_bring c time)
     ∙ ap (λ (h : Held). sum_of (sum_in h.books) (Created c.args.conf time ∷ [])) c.self.view_is

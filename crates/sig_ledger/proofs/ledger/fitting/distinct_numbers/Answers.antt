@@ -1,9 +1,9 @@
-use Rattle.std.proofs.Common.{◌≡◌, ◌∙◌, ap, sym, ℕ, ◌==◌, nat_eq, true, false, take, arith, rules}
+use Rattle.std.proofs.Common.{◌≡◌, ◌∙◌, ap, sym, ◌==◌, nat_eq, true, false, take, arith, rules}
 use Rattle.std.specs.Prelude.{cond}
 use Rattle.indexmap.specs.IndexSet.{contains}
 use Rattle.sig_history.specs.Owed.{names_number}
 use Rattle.sig_terms.specs.declared.fact.SettledItem.{SettledItem}
-use Rattle.sig_accounts.proofs.SettleLemmas.{named_step, new_start, new_step}
+use Rattle.sig_ledger.proofs.OnceLemmas.{named_step, new_start, new_step}
 use Rattle.sig_ledger.proofs.ledger.fitting.distinct_numbers.Goals as goal
 
 pub loop-item-init : goal.loop-item-init

@@ -2,7 +2,7 @@ use Rattle.std.proofs.Common.{◌≡◌, ℕ, take, drop, nat_eq}
 use Rattle.indexmap.specs.IndexSet.{contains}
 use Rattle.sig_history.specs.Owed.{names_number}
 use Rattle.sig_history.specs.Sound.{each_once}
-use Rattle.sig_accounts.proofs.SettleLemmas.{are_new}
+use Rattle.sig_ledger.proofs.OnceLemmas.{are_new}
 use Rattle.sig_ledger.proofs.ledger.fitting.distinct_numbers.Given as goal
 
 abbrev pub invariant-loop-item : goal.invariant-loop-item

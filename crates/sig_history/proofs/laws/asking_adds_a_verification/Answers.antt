@@ -1,5 +1,0 @@
-use Rattle.sig_history.proofs.OwedStepLemmas.{asking_adds}
-use Rattle.sig_history.proofs.laws.asking_adds_a_verification.Goals as goal
-
-pub returns : goal.returns
-returns c = asking_adds

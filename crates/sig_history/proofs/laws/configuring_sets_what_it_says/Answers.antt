@@ -1,5 +1,0 @@
-use Rattle.sig_history.proofs.ChangeLemmas.{configuring_sets}
-use Rattle.sig_history.proofs.laws.configuring_sets_what_it_says.Goals as goal
-
-pub returns : goal.returns
-returns c = configuring_sets

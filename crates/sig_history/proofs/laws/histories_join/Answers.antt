@@ -1,5 +1,0 @@
-use Rattle.sig_history.proofs.JoinLemmas.{joined}
-use Rattle.sig_history.proofs.laws.histories_join.Goals as goal
-
-pub returns : goal.returns
-returns c = joined

@@ -1,5 +1,0 @@
-use Rattle.sig_history.proofs.ChangeLemmas.{listing_decides}
-use Rattle.sig_history.proofs.laws.listing_decides_what_is_due.Goals as goal
-
-pub returns : goal.returns
-returns c = listing_decides

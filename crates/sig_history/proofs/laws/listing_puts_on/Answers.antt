@@ -1,5 +1,0 @@
-use Rattle.sig_history.proofs.ChangeLemmas.{listing_puts}
-use Rattle.sig_history.proofs.laws.listing_puts_on.Goals as goal
-
-pub returns : goal.returns
-returns c = listing_puts

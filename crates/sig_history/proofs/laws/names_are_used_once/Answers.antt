@@ -1,5 +1,0 @@
-use Rattle.sig_history.proofs.NameLemmas.{names_once}
-use Rattle.sig_history.proofs.laws.names_are_used_once.Goals as goal
-
-pub returns : goal.returns
-returns c = names_once

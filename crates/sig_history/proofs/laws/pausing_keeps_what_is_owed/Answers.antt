@@ -1,5 +1,0 @@
-use Rattle.sig_history.proofs.OwedStepLemmas.{pausing_keeps}
-use Rattle.sig_history.proofs.laws.pausing_keeps_what_is_owed.Goals as goal
-
-pub returns : goal.returns
-returns c = pausing_keeps

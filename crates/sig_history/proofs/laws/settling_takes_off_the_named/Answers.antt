@@ -1,5 +1,0 @@
-use Rattle.sig_history.proofs.OwedStepLemmas.{settling_takes}
-use Rattle.sig_history.proofs.laws.settling_takes_off_the_named.Goals as goal
-
-pub returns : goal.returns
-returns c = settling_takes

@@ -1,5 +1,0 @@
-use Rattle.sig_history.proofs.SoundLemmas.{sound_whole}
-use Rattle.sig_history.proofs.laws.sound_histories_are_whole.Goals as goal
-
-pub returns : goal.returns
-returns c = sound_whole

@@ -1,5 +1,0 @@
-use Rattle.sig_history.proofs.SoundLemmas.{sound_joined}
-use Rattle.sig_history.proofs.laws.sound_histories_join.Goals as goal
-
-pub returns : goal.returns
-returns c = sound_joined

@@ -1,5 +1,0 @@
-use Rattle.sig_history.proofs.SoundLemmas.{streams_sorted}
-use Rattle.sig_history.proofs.laws.streams_stand_in_order.Goals as goal
-
-pub returns : goal.returns
-returns c = streams_sorted
