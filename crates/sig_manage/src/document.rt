@@ -38,16 +38,16 @@ pub fn metadata(alloc: Global, rules: &Rules) -> Result<Value, Memory>
 fn addresses(alloc: Global, base: &str) -> Result<Map<String, Value>, Memory>
     ensures { IfOk result (λ ms. members_view ms.entries ≡ spec.addresses base.now) }
 {
-    let add = endpoint(alloc, base, Route::Body(BodyCall::Add))?;
-    let configuration = endpoint(alloc, base, Route::Body(BodyCall::Create))?;
-    let remove = endpoint(alloc, base, Route::Body(BodyCall::Remove))?;
-    let status = endpoint(alloc, base, Route::Body(BodyCall::SetStatus))?;
-    let verification = endpoint(alloc, base, Route::Body(BodyCall::Verify))?;
     let mut members = Map::new(alloc);
+    let add = endpoint(alloc, base, Route::Body(BodyCall::Add))?;
     put_value(alloc, &mut members, "add_subject_endpoint", add)?;
+    let configuration = endpoint(alloc, base, Route::Body(BodyCall::Create))?;
     put_value(alloc, &mut members, "configuration_endpoint", configuration)?;
+    let remove = endpoint(alloc, base, Route::Body(BodyCall::Remove))?;
     put_value(alloc, &mut members, "remove_subject_endpoint", remove)?;
+    let status = endpoint(alloc, base, Route::Body(BodyCall::SetStatus))?;
     put_value(alloc, &mut members, "status_endpoint", status)?;
+    let verification = endpoint(alloc, base, Route::Body(BodyCall::Verify))?;
     put_value(alloc, &mut members, "verification_endpoint", verification)?;
     Ok(members)
 }

@@ -28,6 +28,8 @@ pub mod laws;
 mod operator;
 mod route;
 mod routing;
+#[cfg(test)]
+mod tests;
 mod threads;
 
 pub use answering::response_of;

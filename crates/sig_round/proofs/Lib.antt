@@ -1,0 +1,5 @@
+pub mod Grown
+pub mod OnePush
+pub mod MorePushes
+pub mod GoingOn
+pub mod HandedLemmas

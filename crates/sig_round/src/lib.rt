@@ -1,0 +1,22 @@
+//! Rounds of pushes: what push streams offer is brought to their receivers (RFC 8935, section 2).
+//!
+//! It stands on `sig_txnode` for what answers calls, turn by turn, and on `sig_push` for the push of one token.
+//!
+//! ```text
+//!     streams --Hand turn--> tokens, one after another: --push--> what its response settles --Settle turn-->
+//! ```
+//!
+//! Promised: a round is one Hand turn over the streams that it is given, and for the first tokens that were handed, in
+//! order, one push each and one Settle turn with what it settles; the log and the taker have these turns and no others. It
+//! ends at the first push that has no answer, and that token stays owed. Left out: which streams have rounds, and when.
+#![tactic(auto)]
+
+mod asking;
+mod delivering;
+pub mod laws;
+mod log;
+mod round;
+mod threads;
+
+pub use log::TurnLog;
+pub use round::push_round;

@@ -1,0 +1,4 @@
+pub mod ReadingLemmas
+pub mod OpeningLemmas
+pub mod RunLemmas
+pub mod ServingLemmas

@@ -1,0 +1,110 @@
+//! The watches of a run, one after the other.
+
+ghost use Rattle.std.specs.Prelude.{◌≡◌, ◌<◌, IfNone, IfSome, None, Some, if◌then◌else◌};
+ghost use Rattle.sig_txnode.specs.Node.{files_told};
+ghost use Rattle.sig_txwatch.specs.Links.{door_view};
+ghost use Rattle.sig_serve.specs.Watches.{BreaksBy, GoesOn, RunsTo, StopsAt, fails_by, standing};
+
+use crate::ServeEnd;
+use sig_links::Door;
+use sig_outside::Disk;
+use sig_txnode::TxNode;
+use sig_txwatch::{WatchEnd, serve_watch};
+use std::alloc::Global;
+use std::sync::Wait;
+
+/// A node after its watches, and how they ended.
+pub struct Served<D: Disk> {
+    pub node: TxNode<D>,
+    pub end: ServeEnd,
+}
+
+// A node after one watch, and how the run ends with it, where it doesn't go on.
+struct Watched<D: Disk> {
+    node: TxNode<D>,
+    end: Option<ServeEnd>,
+}
+
+/// Runs so many watches, or fewer: it goes on after none that reports a shut door, nor after one that fails.
+#[tactic(auto, using(crate::proofs::RunLemmas::ran_none, crate::proofs::RunLemmas::ran_all))]
+pub fn run_watches<R: Wait, D: Disk, A: Door>(
+    alloc: Global,
+    rt: &R,
+    node: TxNode<D>,
+    watches: u64,
+    door: &mut A,
+) -> Served<D>
+    requires { node.store.broken_at ≡ None }
+    ensures runs { RunsTo node.rules result.end watches
+        (standing node.state (files_told D.told node) (door_view A.coming A.served A.out A.place A.faults door.old))
+        (standing result.node.state (files_told D.told result.node) (door_view A.coming A.served A.out A.place A.faults door.new)) }
+    ensures breaks { BreaksBy (fails_by result.end) result.node.store.broken_at }
+    ensures network { result.end ≡ ServeEnd.NetworkFailed → 0 < A.faults door.new }
+{
+    let mut node = node;
+    for _ in 0..watches {
+        let Watched { node: next, end } = run_watch(alloc, rt, node, door);
+        node = next;
+        if let Some(end) = end {
+            return Served { node, end };
+        }
+    }
+    Served {
+        node,
+        end: ServeEnd::Done,
+    }
+}
+
+// Runs one watch.
+fn run_watch<R: Wait, D: Disk, A: Door>(
+    alloc: Global,
+    rt: &R,
+    node: TxNode<D>,
+    door: &mut A,
+) -> Watched<D>
+    requires { node.store.broken_at ≡ None }
+    ensures rules { result.node.rules ≡ node.rules }
+    ensures goes_on { IfNone result.end (GoesOn node.rules
+        (standing node.state (files_told D.told node) (door_view A.coming A.served A.out A.place A.faults door.old))
+        (standing result.node.state (files_told D.told result.node) (door_view A.coming A.served A.out A.place A.faults door.new))) }
+    ensures stops { IfSome result.end (λ end. StopsAt node.rules end
+        (standing node.state (files_told D.told node) (door_view A.coming A.served A.out A.place A.faults door.old))
+        (standing result.node.state (files_told D.told result.node) (door_view A.coming A.served A.out A.place A.faults door.new))) }
+    ensures whole { IfNone result.end (result.node.store.broken_at ≡ None) }
+    ensures breaks { IfSome result.end (λ end. BreaksBy (fails_by end) result.node.store.broken_at) }
+    ensures network { IfSome result.end (λ end. end ≡ ServeEnd.NetworkFailed → 0 < A.faults door.new) }
+{
+    match serve_watch(alloc, rt, node, door) {
+        WatchEnd::Done { node, report } => Watched {
+            node,
+            end: end_after(report.shut),
+        },
+        WatchEnd::DoorFault { node, report: _ } => Watched {
+            node,
+            end: Some(ServeEnd::NetworkFailed),
+        },
+        WatchEnd::Broken { node, report: _ } => Watched {
+            node,
+            end: Some(ServeEnd::StoreFailed),
+        },
+        WatchEnd::Disagree {
+            node,
+            differ,
+            report: _,
+        } => Watched {
+            node,
+            end: Some(ServeEnd::Disagree(differ)),
+        },
+        WatchEnd::Memory { node } => Watched {
+            node,
+            end: Some(ServeEnd::Memory),
+        },
+    }
+}
+
+// How the run ends after a watch that reports so of its door.
+fn end_after(shut: bool) -> Option<ServeEnd>
+    ensures { result ≡ (if shut then Some ServeEnd.Done else None) }
+{
+    if shut { Some(ServeEnd::Done) } else { None }
+}

@@ -1,0 +1,78 @@
+//! Keys of settings.
+
+ghost use Rattle.std.specs.Prelude.{◌≡◌, IfOk};
+ghost use Rattle.std.specs.List.{list_all};
+ghost use Rattle.serde_json.specs.View.{view};
+ghost use Rattle.sig_settings.specs.Keys as spec;
+
+use crate::SettingKind;
+use crate::member::{member_in, optional_in};
+use sig_json::limits::KEY_NAME_BYTES;
+use sig_json::{Bytes, Memory, Text, Value};
+use sig_jws::{Key, key_of};
+use std::alloc::Global;
+
+/// An object `{"k", "kid"}`: the key's 32 to 64 bytes in base64url without padding (RFC 7518, section 6.4), and
+/// its name, 1 to 64 of `A-Z a-z 0-9 . _ -`, where it has one.
+pub struct KeyObject;
+
+impl SettingKind for KeyObject {
+    type Kept = Key;
+
+    ghost said = { spec.key_at };
+
+    fn keep(alloc: Global, value: &Value) -> Result<Option<Key>, Memory> {
+        let Some(bytes) = member_in::<KeyBytes>(alloc, value, "k")? else {
+            return Ok(None);
+        };
+        let Some(kid) = optional_in::<KeyName>(alloc, value, "kid")? else {
+            return Ok(None);
+        };
+        Ok(Some(Key { kid, bytes }))
+    }
+}
+
+struct KeyBytes;
+
+impl SettingKind for KeyBytes {
+    type Kept = Bytes;
+
+    ghost said = { spec.key_bytes_at };
+
+    fn keep(alloc: Global, value: &Value) -> Result<Option<Bytes>, Memory> {
+        match value.as_str() {
+            Some(word) => key_of(alloc, word),
+            None => Ok(None),
+        }
+    }
+}
+
+struct KeyName;
+
+impl SettingKind for KeyName {
+    type Kept = Text;
+
+    ghost said = { spec.key_name_at };
+
+    fn keep(alloc: Global, value: &Value) -> Result<Option<Text>, Memory> {
+        match value.as_str() {
+            Some(name) if is_key_name(name) => Ok(Some(Text::of(alloc, name)?)),
+            _ => Ok(None),
+        }
+    }
+}
+
+fn is_key_name(name: &str) -> bool
+    ensures { result ≡ spec.is_key_name name.now }
+{
+    !name.is_empty() && name.len() <= KEY_NAME_BYTES && are_key_name_bytes(name.as_bytes())
+}
+
+fn are_key_name_bytes(name: &[u8]) -> bool
+    ensures { result ≡ list_all spec.is_key_name_byte name.now }
+{
+    name.iter().all(|byte| byte.is_ascii_alphanumeric()
+        || *byte == b'.'
+        || *byte == b'_'
+        || *byte == b'-')
+}

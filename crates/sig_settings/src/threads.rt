@@ -1,0 +1,8 @@
+//! The fault moves between threads and may be shared by them, which the check of this call shows.
+
+use crate::SettingsFault;
+use sig_json::crosses_threads;
+
+fn types_cross() {
+    crosses_threads::<SettingsFault>();
+}

@@ -1,0 +1,8 @@
+pub mod AnswerLemmas
+pub mod ChainLemmas
+pub mod EndLemmas
+pub mod FollowLemmas
+pub mod PassLemmas
+pub mod ProperLemmas
+pub mod TurnLemmas
+pub mod WritingLemmas

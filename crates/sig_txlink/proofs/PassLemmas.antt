@@ -1,0 +1,167 @@
+-- What a pass makes of a link: a request that was read and answered, or how the link ends.
+use Rattle.std.proofs.Common.{◌≡◌, ℕ, List, [], ◌++◌, Option, Some, None, IfSome, inl, inr, refl, sym, ap, subst, ◌∙◌}
+use Rattle.std.specs.Prelude.{Result, Err, ⊤}
+use Rattle.sig_outside.specs.Causes.{Raised}
+use Rattle.sig_http.specs.Faults.{Tallies}
+use Rattle.sig_http.specs.Message.{Reads, Refuses}
+use Rattle.sig_http.specs.declared.fault.HttpFault.{HttpFault}
+use Rattle.sig_http.specs.declared.fault.HttpFault.TheVariants as faults
+use Rattle.sig_http.specs.declared.message.Got.TheVariants as gots
+use Rattle.sig_http.specs.declared.message.Got.{Got}
+use Rattle.sig_http.specs.declared.message.Request.{Request}
+use Rattle.sig_push.specs.declared.fault.PushFault.{PushFault}
+use Rattle.sig_push.specs.declared.fault.PushFault.TheVariants as outs
+use Rattle.sig_terms.specs.declared.rules.Rules.{Rules}
+use Rattle.sig_txlink.specs.Answering.{memory_text, refusal_text}
+use Rattle.sig_txlink.specs.Exchange.{IsRead, text_in}
+use Rattle.sig_txlink.specs.Moment.{Line, Desk, moment, unread}
+use Rattle.sig_txlink.specs.Sending.{IsRefusal}
+use Rattle.sig_txlink.specs.Serving.{Answered, AnswersBy, AnswersRequest, IsTold, Passes, PassesBy}
+use Rattle.sig_txlink.specs.declared.log.LinkEnd.{LinkEnd}
+use Rattle.sig_txlink.specs.declared.log.LinkEnd.TheVariants.{End, Spent, Closed, Http, Sent, Memory}
+use Rattle.sig_txlink.proofs.WritingLemmas.{breaks_from, says_from, says_none, sends_from}
+
+-- it was read of the bytes that were kept and left
+request_read : (kept kept' : List ℕ) (line line' : Line) (desk desk' : Desk) (request : Request)
+    → IfSome line.left (λ left. Reads (kept ++ left) (gots.Request request) kept' line'.left)
+    → IsRead (unread (moment kept line desk)) request (unread (moment kept' line' desk'))
+request_read kept kept' line line' desk desk' request h = by_left line.left line'.left h
+  where
+    by_left : (left left' : Option (List ℕ)) → IfSome left (λ bytes. Reads (kept ++ bytes) (gots.Request request) kept' left')
+        → IsRead (unread (moment kept (record line { left = left }) desk)) request (unread (moment kept' (record line' { left = left' }) desk'))
+    by_left None left' k = tt
+    by_left (Some bytes) None k = k
+    by_left (Some bytes) (Some bytes') k = k
+
+-- a request was read, and told that its push round ended so
+told_by : (rules : Rules) (link before : ℕ) (request : Request) (end : Result ⊤ PushFault) (kept kept' : List ℕ) (line mid line' : Line) (desk desk' : Desk)
+    → IsRead (unread (moment kept line desk)) request (unread (moment kept' line' desk'))
+    → mid.written ≡ line.written → mid.writes ≡ line.writes → line'.reads ≡ line.reads
+    → (h : IsTold rules link before request end mid line' desk desk') → Answered rules link before h.0 end (moment kept line desk) (moment kept' line' desk')
+told_by rules link before request end kept kept' line mid line' desk desk' read same count reads h = record {
+  read = subst (λ (r : Request). IsRead (unread (moment kept line desk)) r (unread (moment kept' line' desk'))) (sym h.1) read;
+  handles = h.2;
+  says = says_from (text_in rules before h.0) line mid line' same count h.3;
+  reads = reads;
+}
+
+-- and answered or not
+read_by : (rules : Rules) (link before : ℕ) (request : Request) (result : Option LinkEnd) (kept kept' : List ℕ) (line mid line' : Line) (desk desk' : Desk)
+    → IsRead (unread (moment kept line desk)) request (unread (moment kept' line' desk'))
+    → mid.written ≡ line.written → mid.writes ≡ line.writes → line'.reads ≡ line.reads
+    → AnswersBy rules link before request result mid line' desk desk'
+    → PassesBy rules link before result (moment kept line desk) (moment kept' line' desk')
+read_by rules link before request None kept kept' line mid line' desk desk' read same count reads h = (
+  h.2.0,
+  record { end = h.0; answered = told_by rules link before request h.0 kept kept' line mid line' desk desk' read same count reads h.2; lasts = h.1 },
+  ap (λ (r : Request). r.close) h.2.1 ∙ h.3,
+)
+read_by rules link before request (Some Closed) kept kept' line mid line' desk desk' read same count reads h = (
+  h.2.0,
+  record { end = h.0; answered = told_by rules link before request h.0 kept kept' line mid line' desk desk' read same count reads h.2; lasts = h.1 },
+  ap (λ (r : Request). r.close) h.2.1 ∙ h.3,
+)
+read_by rules link before request (Some (Sent fault)) kept kept' line mid line' desk desk' read same count reads h =
+    let e = h.1.0 in (
+      h.0,
+      (
+        e,
+        record {
+          begins = record { read = subst (λ (r : Request). IsRead (unread (moment kept line desk)) r (unread (moment kept' line' desk'))) (sym h.1.1) read; takes = h.1.2; reads = reads };
+          breaks = breaks_from (text_in rules before e) line mid line' same count h.1.3;
+        },
+      ),
+    )
+read_by rules link before request (Some Memory) kept kept' line mid line' desk desk' read same count reads (inl h) = inl (record {
+  takes = elim h.0 [
+    | inl none ↦ inl none
+    | inr some ↦ inr (some.0, record { read = subst (λ (r : Request). IsRead (unread (moment kept line desk)) r (unread (moment kept' line' desk'))) (sym some.1) read; takes = some.2; reads = reads })
+  ];
+  sends = sends_from memory_text line mid line' same count h.1;
+})
+read_by rules link before request (Some Memory) kept kept' line mid line' desk desk' read same count reads (inr h) =
+    inr (h.0, told_by rules link before request (Err outs.Memory) kept kept' line mid line' desk desk' read same count reads h)
+read_by rules link before request (Some End) kept kept' line mid line' desk desk' read same count reads h = absurd h
+read_by rules link before request (Some Spent) kept kept' line mid line' desk desk' read same count reads h = absurd h
+read_by rules link before request (Some (Http fault)) kept kept' line mid line' desk desk' read same count reads h = absurd h
+
+pub passes_read : (rules : Rules) (link before : ℕ) (got : Got) (request : Request) (result : Option LinkEnd) (kept kept' kept'' : List ℕ) (line mid line' : Line) (desk desk' : Desk)
+    → got ≡ gots.Request request → IfSome line.left (λ left. Reads (kept ++ left) got kept' mid.left)
+    → mid.written ≡ line.written → mid.writes ≡ line.writes → mid.reads ≡ line.reads
+    → line'.left ≡ mid.left → line'.reads ≡ mid.reads → kept'' ≡ kept'
+    → AnswersRequest rules link before request result mid line' desk desk'
+    → Passes rules link before result (moment kept line desk) (moment kept'' line' desk')
+passes_read rules link before got request result kept kept' kept'' line mid line' desk desk' is read same count reads left reads' keeps h =
+    let one : IfSome line.left (λ (bytes : List ℕ). Reads (kept ++ bytes) (gots.Request request) kept' mid.left) = subst (λ (g : Got). IfSome line.left (λ (bytes : List ℕ). Reads (kept ++ bytes) g kept' mid.left)) is read in
+    let two : IfSome line.left (λ (bytes : List ℕ). Reads (kept ++ bytes) (gots.Request request) kept'' mid.left) = subst (λ (k : List ℕ). IfSome line.left (λ (bytes : List ℕ). Reads (kept ++ bytes) (gots.Request request) k mid.left)) (sym keeps) one in
+    let three : IfSome line.left (λ (bytes : List ℕ). Reads (kept ++ bytes) (gots.Request request) kept'' line'.left) = subst (λ (l : Option (List ℕ)). IfSome line.left (λ (bytes : List ℕ). Reads (kept ++ bytes) (gots.Request request) kept'' l)) (sym left) two in
+    record { comes = read_by rules link before request result kept kept'' line mid line' desk desk' (request_read kept kept'' line line' desk desk' request three) same count (reads' ∙ reads) h.comes }
+
+-- the bytes that were kept and left decide a fault
+decided_by : (kept : List ℕ) (line : Line) (desk : Desk) (fault : HttpFault) → IfSome line.left (λ left. Refuses (kept ++ left) fault)
+    → IfSome (unread (moment kept line desk)) (λ bytes. Refuses bytes fault)
+decided_by kept line desk fault h = by_left line.left h
+  where
+    by_left : (left : Option (List ℕ)) → IfSome left (λ bytes. Refuses (kept ++ bytes) fault) → IfSome (unread (moment kept (record line { left = left }) desk)) (λ bytes. Refuses bytes fault)
+    by_left None k = tt
+    by_left (Some bytes) k = k
+
+-- the counts of reads by a fault
+pub tallied : (fault : HttpFault) (before now : ℕ) → (fault ≡ faults.Link → Raised before now) → ((fault ≡ faults.Link → ⊥) → now ≡ before) → Tallies fault before now
+tallied faults.Link before now link steady = link refl
+tallied faults.Head before now link steady = steady (λ e. cc)
+tallied faults.HeadLong before now link steady = steady (λ e. cc)
+tallied faults.Length before now link steady = steady (λ e. cc)
+tallied faults.BodyLong before now link steady = steady (λ e. cc)
+tallied faults.Coding before now link steady = steady (λ e. cc)
+tallied faults.Expect before now link steady = steady (λ e. cc)
+tallied faults.Cut before now link steady = steady (λ e. cc)
+tallied faults.Memory before now link steady = steady (λ e. cc)
+
+-- no request was read
+refused_by : (rules : Rules) (link before : ℕ) (fault : HttpFault) (end : LinkEnd) (kept kept' : List ℕ) (line mid line' : Line) (desk : Desk)
+    → IfSome line.left (λ left. Refuses (kept ++ left) fault) → Tallies fault line.reads mid.reads → line'.reads ≡ mid.reads
+    → mid.written ≡ line.written → mid.writes ≡ line.writes
+    → IsRefusal fault end mid line' → PassesBy rules link before (Some end) (moment kept line desk) (moment kept' line' desk)
+refused_by rules link before fault End kept kept' line mid line' desk decided tally reads same count h = absurd h.closes
+refused_by rules link before fault Spent kept kept' line mid line' desk decided tally reads same count h = absurd h.closes
+refused_by rules link before fault Closed kept kept' line mid line' desk decided tally reads same count h = absurd h.closes
+refused_by rules link before fault (Sent told) kept kept' line mid line' desk decided tally reads same count h = absurd h.closes
+refused_by rules link before fault (Http told) kept kept' line mid line' desk decided tally reads same count h =
+    rw h.closes.0 (record {
+      decided = decided_by kept line desk fault decided;
+      other = h.other (ap Http h.closes.0);
+      cause = subst (λ n. Tallies fault line.reads n) (sym reads) tally;
+      rests = record { side = refl; told = refl; turns = refl };
+      sends = sends_from (refusal_text fault) line mid line' same count h.closes.1;
+    })
+refused_by rules link before fault Memory kept kept' line mid line' desk decided tally reads same count h = inl (record {
+  takes = inl (record { side = inl refl; told = refl; turns = refl });
+  sends = sends_from memory_text line mid line' same count h.closes;
+})
+
+pub passes_refused : (rules : Rules) (link before : ℕ) (fault : HttpFault) (end : LinkEnd) (kept kept' : List ℕ) (line mid line' : Line) (desk : Desk)
+    → IfSome line.left (λ left. Refuses (kept ++ left) fault) → (fault ≡ faults.Link → Raised line.reads mid.reads) → ((fault ≡ faults.Link → ⊥) → mid.reads ≡ line.reads)
+    → line'.reads ≡ mid.reads → mid.written ≡ line.written → mid.writes ≡ line.writes
+    → IsRefusal fault end mid line' → Passes rules link before (Some end) (moment kept line desk) (moment kept' line' desk)
+passes_refused rules link before fault end kept kept' line mid line' desk decided raised steady reads same count h =
+    record { comes = refused_by rules link before fault end kept kept' line mid line' desk decided (tallied fault line.reads mid.reads raised steady) reads same count h }
+
+-- there was no byte more
+pub passes_none : (rules : Rules) (link before : ℕ) (got : Got) (kept kept' : List ℕ) (line line' : Line) (desk : Desk)
+    → got ≡ gots.End → IfSome line.left (λ left. Reads (kept ++ left) got kept' line'.left) → line'.reads ≡ line.reads
+    → line'.written ≡ line.written → line'.writes ≡ line.writes
+    → Passes rules link before (Some End) (moment kept line desk) (moment kept' line' desk)
+passes_none rules link before got kept kept' line line' desk is h reads same count = record {
+  comes = record {
+    none = by_left line.left line'.left (subst (λ (g : Got). IfSome line.left (λ (bytes : List ℕ). Reads (kept ++ bytes) g kept' line'.left)) is h);
+    rests = record { side = refl; told = refl; turns = refl };
+    reads = reads;
+    says = says_none line line' same count;
+  };
+}
+  where
+    by_left : (left left' : Option (List ℕ)) → IfSome left (λ bytes. Reads (kept ++ bytes) gots.End kept' left') → IfSome (unread (moment kept (record line { left = left }) desk)) (λ bytes. bytes ≡ [])
+    by_left None left' k = tt
+    by_left (Some bytes) None k = absurd k
+    by_left (Some bytes) (Some bytes') k = k.0

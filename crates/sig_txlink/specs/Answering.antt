@@ -1,0 +1,74 @@
+-- How what came of a request is told (RFC 9110, section 15): a refusal of the routes, the answer of its turn, or why the turn
+-- has none.
+use Rattle.std.specs.Prelude.{ℕ, Bool, false, List, [], ◌∷◌, Option, Some, None, unwrap_or, Result, Ok, Err, codes}
+use Rattle.sig_http.specs.Answering.{closing as closing_with, refused_with, closing_of}
+use Rattle.sig_http.specs.Spelling.{response_spelling}
+use Rattle.sig_http.specs.declared.fault.HttpFault.{HttpFault}
+use Rattle.sig_http.specs.declared.message.Response.{Response}
+use Rattle.sig_terms.specs.declared.answer.Answer.{Answer}
+use Rattle.sig_terms.specs.declared.answer.Answer.TheVariants as answer
+use Rattle.sig_terms.specs.declared.rules.Rules.{Rules}
+use Rattle.sig_terms.specs.declared.token.Token.{Token}
+use Rattle.sig_store.specs.declared.fault.NodeFault.{NodeFault}
+use Rattle.sig_store.specs.declared.fault.NodeFault.TheVariants.{Store, Full, Memory}
+use Rattle.sig_delivery.specs.Sets.{sets_text}
+use Rattle.sig_manage.specs.Answers.{reply}
+use Rattle.sig_txlink.specs.declared.course.Course.{Course}
+use Rattle.sig_txlink.specs.declared.course.Course.TheVariants.{Refused, Turned}
+
+-- a response without a body
+abbrev pub empty : ℕ → Response
+empty status = record { status = status; headers = []; close = false; body = [] }
+
+-- the response where memory runs out (RFC 4918, section 11.5), after which the link closes
+abbrev pub starved : Response
+starved = closing_with 507
+
+-- a page of tokens, signed (RFC 8936, section 2.5)
+abbrev pub page : Rules → List Token → Bool → Response
+page rules tokens more = record {
+  status = 200;
+  headers = (record { name = codes "content-type"; value = codes "application/json" }) ∷ [];
+  close = false;
+  body = sets_text tokens more rules.key;
+}
+
+-- an answer. What a push round is handed or settles is told to no request
+abbrev pub answered : Rules → Answer → Response
+answered rules (answer.Sets tokens more) = page rules tokens more
+answered rules (answer.Handed tokens) = empty 500
+answered rules (answer.Settled count) = empty 500
+answered rules a = unwrap_or (reply a rules) (empty 500)
+
+-- the result of a turn: 503 where the store failed, and 500 where a number would pass its limit
+abbrev pub response_in : Rules → Result Answer NodeFault → Response
+response_in rules (Ok a) = answered rules a
+response_in rules (Err Store) = empty 503
+response_in rules (Err (Full n)) = empty 500
+response_in rules (Err Memory) = starved
+
+-- what came of a request
+abbrev pub response_to : Rules → Course → Response
+response_to rules (Refused refusal) = unwrap_or (refused_with refusal) starved
+response_to rules (Turned turn) = response_in rules turn.result
+
+-- a response that says whether the link closes after it (RFC 9112, section 9.6)
+abbrev pub closing : Bool → Response → Response
+closing close response = record response { close = close }
+
+-- the text of the response to a request
+unfoldable pub text_of : Rules → Bool → Course → List ℕ
+text_of rules close course = response_spelling (closing close (response_to rules course))
+
+-- the text of that response, which is fixed
+unfoldable pub memory_text : List ℕ
+memory_text = codes "HTTP/1.1 507 Insufficient Storage\r\nconnection: close\r\ncontent-length: 0\r\n\r\n"
+
+-- the text of a response, and nothing where there is none
+abbrev pub spelled : Option Response → List ℕ
+spelled None = []
+spelled (Some response) = response_spelling response
+
+-- the text of the response to a request that can't be read
+unfoldable pub refusal_text : HttpFault → List ℕ
+refusal_text fault = spelled (closing_of fault)

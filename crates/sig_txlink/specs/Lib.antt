@@ -1,0 +1,9 @@
+pub mod Answering
+pub mod Asking
+pub mod Exchange
+pub mod Following
+pub mod Moment
+pub mod Sending
+pub mod Serving
+pub mod Turning
+pub mod Work

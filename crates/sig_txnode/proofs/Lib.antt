@@ -1,0 +1,6 @@
+pub mod TurnLemmas
+pub mod AnswerLemmas
+pub mod CarryLemmas
+pub mod LoadLemmas
+pub mod NodeLemmas
+pub mod OpenLemmas

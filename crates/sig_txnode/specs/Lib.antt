@@ -1,0 +1,9 @@
+pub mod Records
+pub mod Answering
+pub mod Planned
+pub mod Given
+pub mod Turns
+pub mod Node
+pub mod Loaded
+pub mod Taken
+pub mod Told

@@ -1,0 +1,152 @@
+//! How a turn is taken and kept.
+
+ghost use Rattle.std.specs.Prelude.{◌≡◌, ◌+◌, ◌<◌, ◌++◌, length, IfOk, OnOk, vec_capacity, vec_len};
+ghost use Rattle.std.specs.Option.{option_to_list};
+ghost use Rattle.sig_calls.specs.Proper.{IsProperCall, IsProperRules};
+ghost use Rattle.sig_calls.specs.Table.{change_of};
+ghost use Rattle.sig_store.specs.Standing.{StandsFor};
+ghost use Rattle.sig_txnode.specs.Answering.{Answered, answer_at, when_ok};
+ghost use Rattle.sig_txnode.specs.Records.{sending};
+ghost use Rattle.sig_txnode.specs.Taken.{Lasts, Refused};
+ghost use Rattle.sig_txnode.specs.Turns.{with_turn};
+
+use crate::Turn;
+use crate::carrying::{Given, answer_call};
+use sig_json::Memory;
+use sig_outbox::Outbox;
+use sig_outside::Disk;
+use sig_store::{NodeFault, Store};
+use sig_terms::{Answer, Call, Fact, Rules};
+use std::alloc::Global;
+
+/// What a node holds that its calls change: its store, its state, and what is kept of its turns.
+pub struct Held<D: Disk> {
+    pub store: Store<D>,
+    pub outbox: Outbox,
+    /// The changes of the turns, in order.
+    pub entries: Vec<Fact>,
+    /// The turns, in order.
+    pub turns: Vec<Turn>,
+}
+
+// Makes room for a turn and its change, and copies the call.
+fn make_room(
+    alloc: Global,
+    turns: &mut Vec<Turn>,
+    entries: &mut Vec<Fact>,
+    call: &Call,
+) -> Result<Call, Memory>
+    ensures copied { IfOk result (λ asked. asked ≡ call.now) }
+    ensures turns { turns.new.items ≡ turns.old.items }
+    ensures entries { entries.new.items ≡ entries.old.items }
+    ensures room { OnOk result ((vec_len turns.new < vec_capacity turns.new) × (vec_len entries.new < vec_capacity entries.new)) }
+{
+    turns.reserve(1)?;
+    entries.reserve(1)?;
+    call.copy(alloc)
+}
+
+// Keeps a change last, where there is one.
+fn keep_entry(entries: &mut Vec<Fact>, entry: Option<Fact>)
+    requires { vec_len entries.old < vec_capacity entries.old }
+    ensures { entries.new.items ≡ entries.old.items ++ option_to_list entry }
+{
+    if let Some(fact) = entry {
+        entries.push_reserved(fact);
+    }
+}
+
+// Keeps a turn last that was refused, unless it was for memory.
+fn keep_refusal(turns: &mut Vec<Turn>, link: u32, call: Call, time: u64, fault: NodeFault)
+    requires { vec_len turns.old < vec_capacity turns.old }
+    ensures { turns.new.items ≡ with_turn turns.old.items link call time (Err fault) }
+{
+    match fault {
+        NodeFault::Memory => drop(call),
+        NodeFault::Store | NodeFault::Full(_) => turns.push_reserved(Turn {
+            link,
+            call,
+            now: time,
+            result: Err(fault),
+        }),
+    }
+}
+
+// Answers a call, for whose turn there is room, and keeps the turn and its change.
+fn keep_turn<D: Disk>(
+    alloc: Global,
+    held: &mut Held<D>,
+    rules: &Rules,
+    link: u32,
+    call: Call,
+    time: u64,
+) -> Result<Answer, NodeFault>
+    requires rules { IsProperRules rules.now }
+    requires call { IsProperCall call }
+    requires stands { StandsFor sending D.told D.seen D.may_leave held.old.store held.old.outbox.sum }
+    requires room { (vec_len held.old.turns < vec_capacity held.old.turns) × (vec_len held.old.entries < vec_capacity held.old.entries) }
+    ensures answered { Answered (answer_at rules.now held.old.outbox.sum held.old.store.journal.end call time) (change_of rules.now held.old.outbox.sum call time) held.old.store.broken_at held.old.outbox.sum held.new.outbox.sum result }
+    ensures turns { held.new.turns.items ≡ with_turn held.old.turns.items link call time result }
+    ensures entries { held.new.entries.items ≡ held.old.entries.items ++ option_to_list (when_ok result (change_of rules.now held.old.outbox.sum call time)) }
+    ensures stands { StandsFor sending D.told D.seen D.may_leave held.new.store held.new.outbox.sum }
+    ensures lasts { Lasts D.told D.seen D.may_leave D.moment D.left_since D.stop D.short held.old.store held.new.store held.old.outbox.sum (change_of rules.now held.old.outbox.sum call time) result }
+    ensures refused { Refused D.faults held.old.store held.new.store (length held.old.turns.items + 1) result }
+{
+    let turn = held.turns.len() as u64 + 1;
+    match answer_call(
+        alloc,
+        &mut held.store,
+        &mut held.outbox,
+        rules,
+        &call,
+        time,
+        turn,
+    ) {
+        Ok(given) => {
+            let Given {
+                answer,
+                kept,
+                entry,
+            } = given;
+            keep_entry(&mut held.entries, entry);
+            held.turns.push_reserved(Turn {
+                link,
+                call,
+                now: time,
+                result: Ok(kept),
+            });
+            Ok(answer)
+        }
+        Err(fault) => {
+            keep_refusal(&mut held.turns, link, call, time, fault);
+            Err(fault)
+        }
+    }
+}
+
+/// Answers a call by the table of calls, makes its change, and keeps the turn and the change.
+pub fn take_turn<D: Disk>(
+    alloc: Global,
+    held: &mut Held<D>,
+    rules: &Rules,
+    link: u32,
+    call: &Call,
+    time: u64,
+) -> Result<Answer, NodeFault>
+    requires rules { IsProperRules rules.now }
+    requires call { IsProperCall call.now }
+    requires stands { StandsFor sending D.told D.seen D.may_leave held.old.store held.old.outbox.sum }
+    ensures answered { Answered (answer_at rules.now held.old.outbox.sum held.old.store.journal.end call.now time) (change_of rules.now held.old.outbox.sum call.now time) held.old.store.broken_at held.old.outbox.sum held.new.outbox.sum result }
+    ensures turns { held.new.turns.items ≡ with_turn held.old.turns.items link call.now time result }
+    ensures entries { held.new.entries.items ≡ held.old.entries.items ++ option_to_list (when_ok result (change_of rules.now held.old.outbox.sum call.now time)) }
+    ensures stands { StandsFor sending D.told D.seen D.may_leave held.new.store held.new.outbox.sum }
+    ensures lasts { Lasts D.told D.seen D.may_leave D.moment D.left_since D.stop D.short held.old.store held.new.store held.old.outbox.sum (change_of rules.now held.old.outbox.sum call.now time) result }
+    ensures refused { Refused D.faults held.old.store held.new.store (length held.old.turns.items + 1) result }
+{
+    // What a refusal leaves rests on what holds of every store.
+    let _ = held.store.broken_at();
+    match make_room(alloc, &mut held.turns, &mut held.entries, call) {
+        Ok(asked) => keep_turn(alloc, held, rules, link, asked, time),
+        Err(Memory) => Err(NodeFault::Memory),
+    }
+}

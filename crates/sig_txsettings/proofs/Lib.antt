@@ -1,0 +1,2 @@
+pub mod ProperSettings
+pub mod RuleSteps

@@ -1,0 +1,81 @@
+-- One link of a watch: it comes from a door, is served over a node, and goes back.
+use Rattle.std.specs.Prelude.{◌≡◌, ℕ, Bool, List, [], Option, Some, None, Result, Ok, Err, IfSome}
+use Rattle.sig_outside.specs.Causes.{Raised}
+use Rattle.sig_outside.specs.declared.failed.Failed.{Failed}
+use Rattle.sig_links.specs.Told.{AcceptsNext, Begins, Coming, IsShut, LinkPlan, Served, served_of, with_last}
+use Rattle.sig_terms.specs.declared.rules.Rules.{Rules}
+use Rattle.sig_txnode.specs.Node.{NodeView, files_told}
+use Rattle.sig_txnode.specs.Told.{TakerTold}
+use Rattle.sig_round.specs.Delivered.{SideView}
+use Rattle.sig_txlink.specs.Moment.{Line, desk_of, moment}
+use Rattle.sig_txlink.specs.Serving as link
+use Rattle.sig_txlink.specs.declared.log.LinkLog.{LinkLog}
+
+-- of a door: the links that are coming and those that were served, where it tells them, how many are out, where it listens,
+-- and its count of faults
+pub record DoorView : Type 0 where
+  pub coming : Option (List Coming)
+  pub served : Option (List Served)
+  pub out : ℕ
+  pub place : Option (List ℕ × ℕ)
+  pub faults : ℕ
+
+abbrev pub door_view : {A : Type 0} → (A → Option (List Coming)) → (A → Option (List Served)) → (A → ℕ) → (A → Option (List ℕ × ℕ)) → (A → ℕ) → A → DoorView
+door_view coming served out place faults door =
+    record { coming = coming door; served = served door; out = out door; place = place door; faults = faults door }
+
+-- of a node: its turns, the state before them, its rules, and whether the files of its store are told
+abbrev pub told_in : {D : Type 0} → (D → Bool) → NodeView D → TakerTold
+told_in told node = record { turns = node.turns; base = node.base; rules = node.rules; files = files_told told node }
+
+-- of a watch at one moment: both
+pub record Watching : Type 0 where
+  pub told : TakerTold
+  pub door : DoorView
+
+abbrev pub watching : TakerTold → DoorView → Watching
+watching told door = record { told = told; door = door }
+
+-- ---- one link
+
+-- the next link of the door, with its side: nothing was read, written or sent yet
+pub record Comes (old new : DoorView) (line : Line) (side : SideView) : Type 0 where
+  pub plan : LinkPlan
+  pub next : AcceptsNext old.coming new.coming plan line.left side.ahead side.times
+  pub written : Begins old.served line.written
+  pub sent : Begins old.served side.sent
+  pub whole : (line.reads ≡ 0) × (line.writes ≡ 0) × (side.faults ≡ 0)
+
+-- the door has it back, with what was written to it and sent by its side; no more links are out than before it came
+pub record GoesBack (old new : DoorView) (line : Line) (side : SideView) : Type 0 where
+  pub served : new.served ≡ with_last old.served (served_of line.written side.sent)
+  pub out : IfSome old.served (λ list. new.out ≡ old.out)
+  pub place : new.place ≡ old.place
+  pub faults : new.faults ≡ old.faults
+
+-- a link came, was served from its first byte on under the number of its log, and went back; the log has its turns
+pub record ServesOne (rules : Rules) (log : LinkLog) (old new : Watching) : Type 0 where
+  pub line : Line
+  pub side : SideView
+  pub comes : Comes old.door new.door line side
+  pub line' : Line
+  pub side' : SideView
+  pub kept : List ℕ
+  pub serves : link.Serves rules log.link log.end (moment [] line (desk_of side (Some old.told) [])) (moment kept line' (desk_of side' (Some new.told) log.turns))
+  pub back : GoesBack old.door new.door line' side'
+
+-- ---- what a door answers
+
+-- it failed, which it counted, and nothing else changed
+pub record FailsOnce (old new : Watching) : Type 0 where
+  pub cause : Raised old.door.faults new.door.faults
+  pub same : new ≡ record old { door = record old.door { faults = new.door.faults } }
+
+-- it gave a link, which was served under this number; or none will come; or it failed
+abbrev pub AnswersBy : Rules → ℕ → Result (Option LinkLog) Failed → Watching → Watching → Type 0
+AnswersBy rules number (Ok (Some log)) old new = (log.link ≡ number) × ServesOne rules log old new
+AnswersBy rules number (Ok None) old new = IsShut old.door.coming × (new ≡ old)
+AnswersBy rules number (Err failed) old new = FailsOnce old new
+
+pub record Answers (rules : Rules) (number : ℕ) (result : Result (Option LinkLog) Failed) (old new : Watching) : Type 0 where
+  pub comes : AnswersBy rules number result old new
