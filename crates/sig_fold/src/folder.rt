@@ -132,6 +132,7 @@ impl Teller for Folder {
     }
 
     fn close<O: Sink>(&self, gathered: &mut Bytes, output: &mut O) -> LinesEnd {
-        print_table(self.alloc, &self.receiver, gathered, output)
+        let rows = self.receiver.rows();
+        print_table(self.alloc, rows, self.receiver.tokens(), gathered, output)
     }
 }

@@ -9,23 +9,24 @@ ghost use Rattle.sig_command.specs.Telling.{PutSo, WhyPut};
 use sig_command::{LinesEnd, put_gathered, put_if};
 use sig_json::{Bytes, Memory};
 use sig_outside::Sink;
-use sig_receiver::{Receiver, counts_line, row_line};
+use sig_receiver::{counts_line, row_line};
 use sig_sessions::Row;
 use std::alloc::Global;
 
-/// Prints what is gathered, the rows and the counts. The ending is `Done`, `Memory` or `Output`.
+/// Prints what is gathered, the rows of a session table, and how many rows and tokens there are. The ending is `Done`,
+/// `Memory` or `Output`.
 pub fn print_table<O: Sink>(
     alloc: Global,
-    receiver: &Receiver,
+    rows: &[Row],
+    tokens: u64,
     gathered: &mut Bytes,
     output: &mut O,
 ) -> LinesEnd
     ensures cause { WhyPut (output_state (O.written output.old) (O.faults output.old) (O.stalls output.old)) (output_state (O.written output.new) (O.faults output.new) (O.stalls output.new)) result }
-    ensures text { PutSo (gathered.old ++ table_text receiver.now.rows (length receiver.now.pairs)) (O.written output.old) (O.written output.new) result }
+    ensures text { PutSo (gathered.old ++ table_text rows.now tokens) (O.written output.old) (O.written output.new) result }
 {
-    let rows = receiver.rows();
     match print_rows(alloc, rows, gathered, output) {
-        Ok(()) => print_counts(alloc, rows.len(), receiver.tokens(), gathered, output),
+        Ok(()) => print_counts(alloc, rows.len(), tokens, gathered, output),
         Err(ending) => ending,
     }
 }

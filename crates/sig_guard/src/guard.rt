@@ -4,6 +4,7 @@ ghost use Rattle.std.specs.Prelude.{◌≡◌, None, OnErr, OnOk, Some};
 ghost use Rattle.sig_json.specs.Answers.{Answers};
 ghost use Rattle.sig_sessions.specs.Verdicts.{verdict_of};
 ghost use Rattle.sig_set.specs.Judgement.{judged, result_of};
+ghost use Rattle.sig_guard.specs.Guard as spec;
 ghost use Rattle.sig_guard.specs.Guard.{answer_to, pairs_after, rows_after};
 
 use sig_inbox::{Found, Pair, Seen};
@@ -32,6 +33,14 @@ pub struct Guard {
     pub last: LastHeader,
 }
 
+// The issuer and the identifier of a token; the rest of what it says ends here.
+fn pair_of(claims: Claims) -> Pair
+    ensures { result ≡ spec.pair_of claims }
+{
+    let Claims { iss, jti, .. } = claims;
+    Pair { iss, jti }
+}
+
 impl Guard {
     /// Judges a token, and takes it where it is valid and new. A repeat has no second effect: an old token that is
     /// brought again must not undo what a later one told. A refusal, `Memory` among them, leaves all as it was.
@@ -54,8 +63,8 @@ impl Guard {
             token,
         )?;
         let change = self.table.prepare(&claims)?;
-        let Claims { iss, jti, .. } = claims;
-        match self.seen.add(Pair { iss, jti })? {
+        let pair = pair_of(claims);
+        match self.seen.add(pair)? {
             Found::There => Ok(Found::There),
             Found::Added => {
                 self.table.commit(change);

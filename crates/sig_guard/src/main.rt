@@ -30,9 +30,13 @@ const KEY: &[u8] = b"0123456789abcdef0123456789abcdef";
 fn main(rt: HostRuntime) -> io::Result<()> {
     let alloc = rt.alloc();
     let mut guard = new_guard(alloc).map_err(out_of_memory)?;
+    take_all(&rt, alloc, &mut guard)
+}
+
+fn take_all(rt: &HostRuntime, alloc: Global, guard: &mut Guard) -> io::Result<()> {
     for line in rt.lines(alloc) {
         let token = line?;
-        take(&rt, &mut guard, token.as_bytes())?;
+        take(rt, guard, token.as_bytes())?;
     }
     Ok(())
 }

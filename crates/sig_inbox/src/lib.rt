@@ -7,8 +7,6 @@
 
 mod pair;
 mod seen;
-#[cfg(test)]
-mod tests;
 mod threads;
 
 pub use pair::Pair;

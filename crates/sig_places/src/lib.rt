@@ -9,8 +9,6 @@
 mod entry;
 mod places;
 mod places_of;
-#[cfg(test)]
-mod tests;
 mod threads;
 
 pub use places::Places;

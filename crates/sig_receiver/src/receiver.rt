@@ -119,6 +119,14 @@ impl Receiver {
         (known, claims)
     }
 
+    // The pair of the claims; the rest of them ends here.
+    fn into_pair(claims: Claims) -> Pair
+        ensures { result ≡ pair_of claims }
+    {
+        let Claims { iss, jti, .. } = claims;
+        Pair { iss, jti }
+    }
+
     // Room for the pair of the claims, which is new, and the change that they make of the table.
     fn make_ready(&mut self, claims: Claims) -> Result<Ready, Memory>
         requires { has_pair (pair_of claims) self.old.pairs ≡ false }
@@ -128,11 +136,8 @@ impl Receiver {
     {
         self.seen.make_room()?;
         let change = self.table.prepare(&claims)?;
-        let Claims { iss, jti, .. } = claims;
-        Ok(Ready {
-            pair: Pair { iss, jti },
-            change,
-        })
+        let pair = Self::into_pair(claims);
+        Ok(Ready { pair, change })
     }
 
     /// Takes in what the last `prepare` made ready. It takes no memory.
@@ -214,6 +219,20 @@ impl Receiver {
         ensures { result ≡ verdict_of self.now.rows subject.now }
     {
         self.table.verdict(subject)
+    }
+
+    /// The pairs of the tokens that it took, in order.
+    pub fn seen(&self) -> &Seen
+        ensures { result.now.pairs ≡ self.now.pairs }
+    {
+        &self.seen
+    }
+
+    /// The session table.
+    pub fn table(&self) -> &Table
+        ensures { result.now.rows ≡ self.now.rows }
+    {
+        &self.table
     }
 
     /// How many tokens it took.

@@ -26,8 +26,6 @@ mod standing;
 mod state;
 mod table;
 mod tally;
-#[cfg(test)]
-mod tests;
 mod threads;
 mod update;
 mod verdict;

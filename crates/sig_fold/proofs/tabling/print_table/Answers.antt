@@ -1,4 +1,4 @@
-use Rattle.std.proofs.Common.{◌∙◌, ap, sym, ◌++◌, length, append_assoc}
+use Rattle.std.proofs.Common.{sym, ◌++◌, length, append_assoc}
 use Rattle.sig_receiver.specs.Printed.{counts_text, rows_text}
 use Rattle.sig_command.specs.Moment.{output_state}
 use Rattle.sig_command.proofs.CountLemmas.{put_why-since}
@@ -15,17 +15,14 @@ returns-in-Ok-clause-cause g c =
 
 pub returns-in-Ok-clause-text : goal.returns-in-Ok-clause-text
 returns-in-Ok-clause-text g c =
-    put_join _ c.in-Ok.ensures.rows.0 (c.print_rows.new.gathered ++ counts_text (length c.rows-rows.result.now) c.tokens.result)
+    put_join _ c.in-Ok.ensures.rows.0 (c.print_rows.new.gathered ++ counts_text (length c.args.rows.now) c.args.tokens)
     (g.O.Sink.written c.args.output.now) (g.O.Sink.written c.print_rows.new.output) (g.O.Sink.written c.print_counts.new.output) c.print_counts.result
-    (ap (λ rows. c.args.gathered.now ++ (rows_text 1 rows ++ counts_text (length rows) (length c.args.receiver.now.pairs))) (sym c.rows-rows.ensures)
-    ∙ ap (λ n. c.args.gathered.now ++ (rows_text 1 c.rows-rows.result.now ++ counts_text (length c.rows-rows.result.now) n)) (sym c.tokens.ensures)
-    ∙ counts_follow c.in-Ok.ensures.rows.0 c.print_rows.new.gathered c.args.gathered.now (rows_text 1 c.rows-rows.result.now) _ c.in-Ok.ensures.rows.1)
+    (counts_follow c.in-Ok.ensures.rows.0 c.print_rows.new.gathered c.args.gathered.now (rows_text 1 c.args.rows.now) _ c.in-Ok.ensures.rows.1)
     c.in-Ok.ensures.rows.2 c.print_counts.ensures.text
 
 pub returns-in-Err-clause-text : goal.returns-in-Err-clause-text
 returns-in-Err-clause-text g c =
-    put_longer _ (c.args.gathered.now ++ rows_text 1 c.rows-rows.result.now) (counts_text (length c.args.receiver.now.rows) (length c.args.receiver.now.pairs))
+    put_longer _ (c.args.gathered.now ++ rows_text 1 c.args.rows.now) (counts_text (length c.args.rows.now) c.args.tokens)
     (g.O.Sink.written c.args.output.now) (g.O.Sink.written c.print_rows.new.output) c.in-Err.ending
-    (ap (λ rows. c.args.gathered.now ++ (rows_text 1 rows ++ counts_text (length c.args.receiver.now.rows) (length c.args.receiver.now.pairs))) (sym c.rows-rows.ensures)
-    ∙ sym (append_assoc c.args.gathered.now (rows_text 1 c.rows-rows.result.now) _))
+    (sym (append_assoc c.args.gathered.now (rows_text 1 c.args.rows.now) _))
     c.in-Err.ensures.failed c.in-Err.ensures.prefix

@@ -1,0 +1,9 @@
+pub mod Cases
+pub mod AcceptedTexts
+pub mod Journalling
+pub mod TakingUp
+pub mod Mapping
+pub mod Hearing
+pub mod Takes
+pub mod Loads
+pub mod Acknowledged

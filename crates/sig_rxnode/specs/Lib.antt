@@ -1,0 +1,10 @@
+pub mod Answers
+pub mod Records
+pub mod Holding
+pub mod Journals
+pub mod Loading
+pub mod Node
+pub mod Parts
+pub mod States
+pub mod Take
+pub mod Laws

@@ -1,0 +1,31 @@
+//! The receiver's node: a receiver whose tokens stand in a journal over the two files of a store.
+//!
+//!     call -> judged -> pair new? -> made ready, framed -> [journal] -> taken in -> turn kept -> answer
+//!     store that is loaded -> record -> token text -> pair new? -> taken in
+//!
+//! It stands on `sig_receiver` for what is answered and kept, on `sig_store` for the journal, and on `sig_entry` for the
+//! records. Promised (`specs/Take`): `take` answers by the table (`specs/Answers`); a token that is answered `Accepted`
+//! stands in the journal, so that no crash takes it away, and has had its effect; a crash at any moment of a call leaves a
+//! store that loads to the state before or after it; a refusal has its cause, and changes nothing. What is kept is always
+//! that of the token texts in the journal (`laws`). Left out: links, routes and what is fetched of a peer.
+#![tactic(auto)]
+
+mod answer;
+mod call;
+mod journalled;
+pub mod laws;
+mod loading;
+mod node;
+mod recording;
+mod rules;
+mod state;
+mod threads;
+mod turn;
+
+pub use answer::RxAnswer;
+pub use call::RxCall;
+pub use node::RxNode;
+pub use rules::{Peer, Principal, RxRules};
+pub use sig_store::NodeFault as RxFault;
+pub use state::RxState;
+pub use turn::RxTurn;

@@ -1,0 +1,232 @@
+ghost use Rattle.std.specs.Prelude.{◌≡◌, ◌⊎◌, ◌+◌, ◌<◌, [], IfErr, IfOk, IsTrue, MatchResult, None, length, vec_len, vec_capacity};
+ghost use Rattle.sig_json.specs.Answers.{result_map};
+ghost use Rattle.sig_outside.specs.Causes.{Rose};
+ghost use Rattle.sig_outside.specs.Disk.{StopsAfter};
+ghost use Rattle.sig_journal.specs.declared.fault.LoadFault.TheVariants as load_fault;
+ghost use Rattle.sig_journal.specs.declared.kind.Kind.TheVariants.{Rx};
+ghost use Rattle.sig_journal.specs.OnlyRead.{OnlyRead};
+ghost use Rattle.sig_journal.specs.Store.{pick, tells};
+ghost use Rattle.sig_store.specs.Stored.{SameJournal};
+ghost use Rattle.sig_rxnode.specs.Holding.{IsHolding};
+ghost use Rattle.sig_rxnode.specs.Parts.{holding_of};
+ghost use Rattle.sig_rxnode.specs.Take.{KeepsTurn};
+
+use crate::journalled::{Journalled, Told};
+use crate::loading::load;
+use crate::{RxAnswer, RxCall, RxFault, RxRules, RxState, RxTurn};
+use sig_journal::{LoadFault, LoadRefused};
+use sig_json::{Bytes, Memory};
+use sig_outside::Disk;
+use sig_set::PreparedTrust;
+use std::alloc::Global;
+use std::marker::Model;
+
+/// A receiver's node. Contracts see what it holds, its settings, and the turns since it was loaded.
+pub struct RxNode<D: Disk> {
+    kept: Journalled<D>,
+    rules: RxRules,
+    trust: PreparedTrust,
+    turns: Vec<RxTurn>,
+}
+
+impl<D: Disk> Model for RxNode<D> {
+    ghost use Rattle.sig_rxnode.specs.Node.{IsNode, NodeView};
+    ghost use Rattle.sig_rxnode.specs.Parts.{holding_of};
+
+    ghost Value = { NodeView D };
+
+    ghost view = { λ n. record { kept = holding_of n.kept; rules = n.rules; turns = n.turns.items } };
+
+    ghost invariant = { λ n. IsNode D.told D.seen D.may_leave (holding_of n.kept) n.trust n.rules };
+}
+
+impl<D: Disk> RxNode<D> {
+    ghost use Rattle.sig_rxnode.specs.Journals.{Writes};
+    ghost use Rattle.sig_rxnode.specs.Loading.{LoadsTold};
+    ghost use Rattle.sig_rxnode.specs.Node.{kept_by};
+    ghost use Rattle.sig_rxnode.specs.States.{held};
+    ghost use Rattle.sig_rxnode.specs.Take.{Answered, Refused, added_by};
+
+    /// Loads a node from the two files of its store: what its records stand for, with these settings.
+    ///
+    /// Each file is synced and then read, and neither is written. `Damaged` comes exactly where the store is damaged, or at
+    /// the gate of the first record that spells no token which says claims; `Store` only where a disk has counted a fault.
+    pub fn load(alloc: Global, a: D, b: D, rules: RxRules) -> Result<RxNode<D>, LoadRefused<D>>
+        ensures told { IsTrue (D.told a) → IsTrue (D.told b) → LoadsTold kept_by (tells Rx (D.seen a) (D.seen b)) result }
+        ensures begins { IfOk result (λ n. (n.rules ≡ rules) × (n.turns ≡ []) × (n.kept.store.journal.kind ≡ Rx) × (n.kept.store.broken_at ≡ None)) }
+        ensures holds { IfOk result (λ n. IsHolding D.told D.seen D.may_leave n.kept) }
+        ensures reads { MatchResult result
+            (λ n. OnlyRead D.told D.seen D.may_leave D.moment D.left_since D.faults a (pick n.kept.store.journal.in_b n.kept.store.journal.written n.kept.store.journal.other)
+            × OnlyRead D.told D.seen D.may_leave D.moment D.left_since D.faults b (pick n.kept.store.journal.in_b n.kept.store.journal.other n.kept.store.journal.written))
+            (λ r. OnlyRead D.told D.seen D.may_leave D.moment D.left_since D.faults a r.a × OnlyRead D.told D.seen D.may_leave D.moment D.left_since D.faults b r.b) }
+        ensures store { IfErr result (λ r. r.fault ≡ load_fault.Store → Rose (D.faults a) (D.faults r.a) ⊎ Rose (D.faults b) (D.faults r.b)) }
+    {
+        match load(alloc, a, b) {
+            Ok(kept) => node_of(alloc, kept, rules),
+            Err(refused) => Err(refused),
+        }
+    }
+
+    /// Takes a call of a link: judges and prepares, takes all room, adds a token that is valid and new to the journal, takes
+    /// it in, and keeps the turn.
+    ///
+    /// `Accepted` comes only where the token stands in the journal, so that no crash takes it away, and has had its effect.
+    /// `Store` comes only where the disk failed in this call, or in an earlier one since the node was loaded; `Full` exactly
+    /// where the journal would end past 2^62; `Memory` changes nothing, and keeps no turn.
+    pub fn take(&mut self, link: u32, call: &RxCall) -> Result<RxAnswer, RxFault>
+        ensures answered { Answered call.now self.old self.new result }
+        ensures turn { KeepsTurn self.old.turns self.new.turns link call.now result }
+        ensures writes { Writes D.told D.seen D.may_leave D.moment D.left_since D.stop D.short (added_by self.old call.now) self.old.kept self.new.kept result }
+        ensures refused { Refused D.faults call.now self.old self.new result }
+        ensures holds { IsHolding D.told D.seen D.may_leave self.old.kept × IsHolding D.told D.seen D.may_leave self.new.kept }
+    {
+        let copied = call.copy(self.kept.alloc)?;
+        self.turns.reserve(1)?;
+        let turn = next_turn(&self.turns);
+        let told = self.kept.answer(&self.trust, call, turn);
+        keep_turn(&mut self.turns, link, copied, told)
+    }
+
+    /// How many turns were kept when the disk failed, the one in which it did included; none exactly where the node isn't
+    /// broken. It takes no memory.
+    pub fn broken_at(&self) -> Option<u64>
+        ensures at { result ≡ self.now.kept.store.broken_at }
+        ensures holds { IsHolding D.told D.seen D.may_leave self.now.kept }
+    {
+        self.kept.store.broken_at()
+    }
+
+    /// Both files stand still after so many further calls of each, where they do that at all. Nothing else changes. It takes
+    /// no memory.
+    pub fn stop_after(&mut self, calls: u64, fill: u8)
+        ensures written { StopsAfter (D.stops self.old.kept.store.journal.written) calls fill (D.stop self.new.kept.store.journal.written) }
+        ensures other { StopsAfter (D.stops self.old.kept.store.journal.other) calls fill (D.stop self.new.kept.store.journal.other) }
+        ensures written_stays { OnlyRead D.told D.seen D.may_leave D.moment D.left_since D.faults self.old.kept.store.journal.written self.new.kept.store.journal.written }
+        ensures other_stays { OnlyRead D.told D.seen D.may_leave D.moment D.left_since D.faults self.old.kept.store.journal.other self.new.kept.store.journal.other }
+        ensures journal { SameJournal self.old.kept.store self.new.kept.store }
+        ensures same { (self.new.kept.state ≡ self.old.kept.state) × (self.new.kept.entries ≡ self.old.kept.entries) × (self.new.rules ≡ self.old.rules) × (self.new.turns ≡ self.old.turns) }
+    {
+        self.kept.store.stop_after(calls, fill);
+    }
+
+    /// A copy of what is kept. Out of memory is its only error.
+    pub fn copy(&self) -> Result<RxState, Memory>
+        ensures { IfOk result (λ s. held s ≡ self.now.kept.state) }
+    {
+        Ok(RxState {
+            seen: self.kept.receiver.seen().copy()?,
+            table: self.kept.receiver.table().copy()?,
+        })
+    }
+
+    /// The turns since the node was loaded, in order.
+    pub fn turns(&self) -> &[RxTurn]
+        ensures { result.now ≡ self.now.turns }
+    {
+        self.turns.as_slice()
+    }
+
+    /// The texts of the tokens in the journal, in order.
+    pub fn entries(&self) -> &[Bytes]
+        ensures { result.now ≡ self.now.kept.entries }
+    {
+        self.kept.entries.as_slice()
+    }
+
+    /// Both files, the first and the second. It takes no memory.
+    pub fn into_disks(self) -> (D, D)
+        ensures files { result ≡ (pick self.kept.store.journal.in_b self.kept.store.journal.written self.kept.store.journal.other, pick self.kept.store.journal.in_b self.kept.store.journal.other self.kept.store.journal.written) }
+        ensures holds { IsHolding D.told D.seen D.may_leave self.kept }
+    {
+        let RxNode {
+            kept,
+            rules: _,
+            trust: _,
+            turns: _,
+        } = self;
+        disks_of(kept)
+    }
+}
+
+// The node of what was loaded, or out of memory.
+fn node_of<D: Disk>(
+    alloc: Global,
+    kept: Journalled<D>,
+    rules: RxRules,
+) -> Result<RxNode<D>, LoadRefused<D>>
+    requires { IsHolding D.told D.seen D.may_leave (holding_of kept) }
+    ensures made { IfOk result (λ n. n ≡ record { kept = holding_of kept; rules = rules; turns = [] }) }
+    ensures refused { IfErr result (λ r. (r.fault ≡ load_fault.Memory) × (r.a ≡ pick kept.store.journal.in_b kept.store.journal.written kept.store.journal.other) × (r.b ≡ pick kept.store.journal.in_b kept.store.journal.other kept.store.journal.written)) }
+{
+    match PreparedTrust::of(alloc, &rules.trust) {
+        Ok(trust) => Ok(RxNode {
+            kept,
+            rules,
+            trust,
+            turns: Vec::new(alloc),
+        }),
+        Err(_) => {
+            let (a, b) = disks_of(kept);
+            Err(LoadRefused {
+                fault: LoadFault::Memory,
+                a,
+                b,
+            })
+        }
+    }
+}
+
+fn disks_of<D: Disk>(kept: Journalled<D>) -> (D, D)
+    ensures { result ≡ (pick kept.store.journal.in_b kept.store.journal.written kept.store.journal.other, pick kept.store.journal.in_b kept.store.journal.other kept.store.journal.written) }
+{
+    let Journalled {
+        alloc: _,
+        receiver: _,
+        entries: _,
+        store,
+    } = kept;
+    store.into_disks()
+}
+
+// The number of the turn that is kept next.
+fn next_turn(turns: &Vec<RxTurn>) -> u64
+    ensures { result ≡ length turns.now.items + 1 }
+{
+    turns.as_slice().len() as u64 + 1
+}
+
+// Keeps a turn last, for which there is room, unless memory ran out; and gives its answer.
+fn keep_turn(
+    turns: &mut Vec<RxTurn>,
+    link: u32,
+    call: RxCall,
+    told: Result<Told, RxFault>,
+) -> Result<RxAnswer, RxFault>
+    requires room { vec_len turns.old < vec_capacity turns.old }
+    requires twice { IfOk told (λ t. t.copy ≡ t.answer) }
+    ensures same { result ≡ result_map (λ t. t.answer) told }
+    ensures turn { KeepsTurn turns.old.items turns.new.items link call result }
+{
+    match told {
+        Ok(Told { answer, copy }) => {
+            turns.push_reserved(RxTurn {
+                link,
+                call,
+                result: Ok(copy),
+            });
+            Ok(answer)
+        }
+        Err(RxFault::Memory) => {
+            drop(call);
+            Err(RxFault::Memory)
+        }
+        Err(fault) => {
+            turns.push_reserved(RxTurn {
+                link,
+                call,
+                result: Err(fault),
+            });
+            Err(fault)
+        }
+    }
+}

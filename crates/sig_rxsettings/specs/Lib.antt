@@ -1,0 +1,4 @@
+pub mod Issuers
+pub mod Peers
+pub mod Principals
+pub mod Settings

@@ -1,0 +1,18 @@
+//! The settings of a receiver: one JSON object, read member by member.
+//!
+//!     bytes -> object -> audience, listen, reader, issuers, principals, poll, .. -> rules and the place to listen at
+//!
+//! It stands on `sig_settings` for the members and on `sig_rxnode` for the rules. Promised: settings are read exactly as
+//! `specs/Settings` says, and else the first member that is missing or wrong is named; a peer that is reached by `https` has
+//! its gateway. Left out: where the bytes come from.
+#![tactic(auto)]
+
+mod issuer;
+mod peer;
+mod principal;
+mod settings;
+#[cfg(test)]
+mod tests;
+mod threads;
+
+pub use settings::{RxSettings, rx_settings};
