@@ -10,7 +10,7 @@ use Rattle.sig_outside.proofs.CauseLemmas.{appends_prefix, appends_then_prefix, 
 use Rattle.sig_command.specs.Moment.{InputState, Moment, OutputCalm, OutputState, OutputStopped}
 use Rattle.sig_command.specs.Telling.{Telling, CanStop, IsTextAt, WhyEnded, Wrote, WroteWhole, whole_text}
 use Rattle.sig_command.proofs.CountLemmas.{at, output_calm-then, output_stopped-since}
-use Rattle.sig_world.proofs.ReplayLemmas.{full-number}
+use Rattle.sig_schedules.proofs.ReplayLemmas.{full-number}
 use Rattle.sig_command.specs.declared.lines_end.LinesEnd.{LinesEnd}
 use Rattle.sig_command.specs.declared.lines_end.LinesEnd.TheVariants.{Done, Stopped, Input, Output, Memory}
 use Rattle.sig_command.specs.declared.stop.Stop.TheVariants as stops
@@ -203,7 +203,7 @@ read-within input read (Some rest) h = omega (arith, ap length h, length-append 
 -- a number by which lines stop a command is 2^62 at least
 full-late : (c : Command) (n : ℕ) → CanStop (telling_of c) (stops.Full n) → LAST_NUMBER ≤ n
 full-late (Fold iss aud key) n can = absurd (subst (λ o. IfSome o (λ stop. ⊥)) can.1 tt)
-full-late Replay n can = let is : n ≡ LAST_NUMBER + 1 = full-number can.0 n can.1 in omega (arith, is)
+full-late Replay n can = let is : LAST_NUMBER < n = full-number can.0 n can.1 in omega (arith, is)
 
 full-least : (c : Command) (n : ℕ) → (n ≡ LAST_NUMBER) ⊎ CanStop (telling_of c) (stops.Full n) → LAST_NUMBER ≤ n
 full-least c n (inl is) = omega (arith, is)

@@ -7,7 +7,7 @@ use Rattle.sig_command.specs.Telling.{Telling, IsTextAt, WhyEnded, Wrote}
 use Rattle.sig_command.specs.declared.lines_end.LinesEnd.TheVariants as ends
 use Rattle.sig_command.specs.declared.stop.Stop.{Stop}
 use Rattle.sig_command.specs.declared.stop.Stop.TheVariants as stops
-use Rattle.sig_world.specs.Replay.{replay_telling}
+use Rattle.sig_schedules.specs.Replay.{replay_telling}
 use Rattle.sig_program.specs.Command.{command_of}
 use Rattle.sig_program.specs.declared.command.Command.{Command}
 use Rattle.sig_program.specs.declared.command.Command.TheVariants.{Fold, Replay}

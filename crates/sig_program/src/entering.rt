@@ -12,8 +12,8 @@ pub fn enter(rt: &HostRuntime) -> ExitCode {
     ExitCode::from(start(rt.alloc(), words(rt), &mut input, &mut output))
 }
 
-// All words, the program's own name first.
-fn words(rt: &HostRuntime) -> io::Result<Vec<String>> {
+/// All words that the system gives, the program's own name first.
+pub fn words(rt: &HostRuntime) -> io::Result<Vec<String>> {
     let mut words = Vec::new(rt.alloc());
     for word in env::args(rt)? {
         words.push(word)?;

@@ -58,8 +58,8 @@ fn put_last<O: Sink>(ending: Ending, line: &str, output: &mut O) -> Ending
     }
 }
 
-// A line that ends with a number.
-fn numbered(name: &str, number: u64) -> ArrayString<64>
+/// A line that ends with a number.
+pub fn numbered(name: &str, number: u64) -> ArrayString<64>
     requires { length name.now ≤ 20 }
     ensures { result.bytes ≡ name.now ++ decimal number ++ codes "\n" }
 {

@@ -24,5 +24,6 @@ mod tests;
 
 pub use command::Command;
 pub use ending::Ending;
-pub use entering::enter;
-pub use running::{run, start};
+pub use entering::{enter, words};
+pub use finishing::numbered;
+pub use running::{after_name, run, start};

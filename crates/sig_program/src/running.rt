@@ -58,8 +58,8 @@ pub fn start<I: Source, O: Sink>(
     }
 }
 
-// The words after the program's own name.
-fn after_name(words: &[String]) -> &[String]
+/// The words after the program's own name.
+pub fn after_name(words: &[String]) -> &[String]
     ensures { result.now ≡ drop 1 words.now }
 {
     match words.split_first() {

@@ -1,4 +1,6 @@
 mod NumberLemmas
 mod TextLemmas
 mod CutLemmas
+mod Optional
+mod StopLemmas
 pub mod ProperLines

@@ -5,8 +5,10 @@ use Rattle.sig_terms.specs.declared.call.Call.{Call as Made}
 use Rattle.sig_terms.specs.declared.call.Call.TheVariants as call
 use Rattle.sig_calls.specs.Proper.{IsProperCall}
 use Rattle.sig_script.specs.Script.{script_line_of}
+use Rattle.sig_script.specs.declared.script.ScriptAct.{ScriptAct}
+use Rattle.sig_script.specs.declared.script.ScriptAct.TheVariants.{Call, Deliver, Answer}
 use Rattle.sig_script.specs.declared.script.ScriptLine.{ScriptLine}
-use Rattle.sig_script.specs.declared.script.ScriptLine.TheVariants.{Skipped, Time, Call, Deliver, Answer, Check}
+use Rattle.sig_script.specs.declared.script.ScriptLine.TheVariants.{Skipped, Time, Act, Check, Stop, Crash}
 
 -- the call tells the transmitter no answer: it settles nothing, and a poll neither acknowledges nor reports
 abbrev pub TellsNothing : Made → Type 0
@@ -29,14 +31,20 @@ TellsNothing (call.Deliver stream) = Unit {0}
 TellsNothing (call.Hand streams) = Unit {0}
 TellsNothing (call.Settle stream number outcome) = ⊥
 
--- a line with a call that is proper and tells no answer, or with a time that there may be
+-- an act whose call is proper and tells no answer
+abbrev pub IsProperScriptAct : ScriptAct → Type 0
+IsProperScriptAct (Call made) = IsProperCall made × TellsNothing made
+IsProperScriptAct (Deliver message) = Unit {0}
+IsProperScriptAct (Answer reply) = Unit {0}
+
+-- a line with such an act, or with a time that there may be; a disk makes at most four calls of an act
 abbrev pub IsProperLine : ScriptLine → Type 0
 IsProperLine Skipped = Unit {0}
 IsProperLine (Time time) = time ≤ LAST_NUMBER
-IsProperLine (Call made) = IsProperCall made × TellsNothing made
-IsProperLine (Deliver message) = Unit {0}
-IsProperLine (Answer reply) = Unit {0}
+IsProperLine (Act act) = IsProperScriptAct act
 IsProperLine (Check subject) = Unit {0}
+IsProperLine (Stop node calls fill act) = (calls ≤ 4) × IsProperScriptAct act
+IsProperLine (Crash node) = Unit {0}
 
 -- each line that is read is one of these
 abbrev pub LinesAreProper : Type 0

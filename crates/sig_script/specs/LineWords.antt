@@ -1,7 +1,7 @@
 -- The words that lines begin with.
 use Rattle.std.specs.Prelude.{ℕ, List, [], ◌∷◌, codes}
 use Rattle.sig_script.specs.declared.line_word.LineWord.{LineWord}
-use Rattle.sig_script.specs.declared.line_word.LineWord.TheVariants.{Time, Create, Patch, Put, Delete, Status, Operator, Add, Remove, Verify, Publish, Poll, Hand, Deliver, Answer, Check}
+use Rattle.sig_script.specs.declared.line_word.LineWord.TheVariants.{Time, Create, Patch, Put, Delete, Status, Operator, Add, Remove, Verify, Publish, Poll, Hand, Deliver, Answer, Check, Stop, Crash}
 
 -- the text of a word
 unfoldable pub word_text : LineWord → List ℕ
@@ -21,8 +21,10 @@ word_text Hand = codes "hand"
 word_text Deliver = codes "deliver"
 word_text Answer = codes "answer"
 word_text Check = codes "check"
+word_text Stop = codes "stop"
+word_text Crash = codes "crash"
 
 -- every word
 unfoldable pub line_words : List LineWord
 line_words =
-    Time ∷ Create ∷ Patch ∷ Put ∷ Delete ∷ Status ∷ Operator ∷ Add ∷ Remove ∷ Verify ∷ Publish ∷ Poll ∷ Hand ∷ Deliver ∷ Answer ∷ Check ∷ []
+    Time ∷ Create ∷ Patch ∷ Put ∷ Delete ∷ Status ∷ Operator ∷ Add ∷ Remove ∷ Verify ∷ Publish ∷ Poll ∷ Hand ∷ Deliver ∷ Answer ∷ Check ∷ Stop ∷ Crash ∷ []

@@ -4,7 +4,7 @@ ghost use Rattle.std.specs.Prelude.{◌≡◌, [], IfOk, Some, option_and_then};
 ghost use Rattle.sig_script.specs.Cutting.{client_cut, names_cut, stream_cut};
 ghost use Rattle.sig_script.specs.Script as spec;
 
-use crate::ScriptLine;
+use crate::ScriptAct;
 use crate::bodies::{status_in, subject_in, want_in};
 use crate::cutting::{client_in, is_word, names_in, stream_in};
 use crate::numbers::number_in;
@@ -13,7 +13,7 @@ use sig_terms::{Call, PollAsk};
 use std::alloc::Global;
 
 /// `create <client> <json>`: a client makes a stream.
-pub(crate) fn create_line(alloc: Global, rest: &str) -> Result<Option<ScriptLine>, Memory>
+pub(crate) fn create_line(alloc: Global, rest: &str) -> Result<Option<ScriptAct>, Memory>
     ensures { IfOk result (λ found. found ≡ option_and_then spec.create_line (client_cut rest.now)) }
 {
     let Some(words) = client_in(rest) else {
@@ -23,22 +23,22 @@ pub(crate) fn create_line(alloc: Global, rest: &str) -> Result<Option<ScriptLine
         return Ok(None);
     };
     let client = Text::of(alloc, words.word)?;
-    Ok(Some(ScriptLine::Call(Call::Create { client, want })))
+    Ok(Some(ScriptAct::Call(Call::Create { client, want })))
 }
 
 /// `patch <client> <stream> <json>`: a client changes a part of a stream's configuration.
-pub(crate) fn patch_line(alloc: Global, rest: &str) -> Result<Option<ScriptLine>, Memory>
+pub(crate) fn patch_line(alloc: Global, rest: &str) -> Result<Option<ScriptAct>, Memory>
     ensures { IfOk result (λ found. found ≡ option_and_then spec.patch_line (names_cut rest.now)) }
 {
     let Some(names) = names_in(rest) else {
         return Ok(None);
     };
+    let client = Text::of(alloc, names.client)?;
+    let stream = Text::of(alloc, names.stream)?;
     let Some(want) = want_in(alloc, names.rest)? else {
         return Ok(None);
     };
-    let client = Text::of(alloc, names.client)?;
-    let stream = Text::of(alloc, names.stream)?;
-    Ok(Some(ScriptLine::Call(Call::Patch {
+    Ok(Some(ScriptAct::Call(Call::Patch {
         client,
         stream,
         want,
@@ -46,18 +46,18 @@ pub(crate) fn patch_line(alloc: Global, rest: &str) -> Result<Option<ScriptLine>
 }
 
 /// `put <client> <stream> <json>`: a client replaces a stream's configuration.
-pub(crate) fn put_line(alloc: Global, rest: &str) -> Result<Option<ScriptLine>, Memory>
+pub(crate) fn put_line(alloc: Global, rest: &str) -> Result<Option<ScriptAct>, Memory>
     ensures { IfOk result (λ found. found ≡ option_and_then spec.put_line (names_cut rest.now)) }
 {
     let Some(names) = names_in(rest) else {
         return Ok(None);
     };
+    let client = Text::of(alloc, names.client)?;
+    let stream = Text::of(alloc, names.stream)?;
     let Some(want) = want_in(alloc, names.rest)? else {
         return Ok(None);
     };
-    let client = Text::of(alloc, names.client)?;
-    let stream = Text::of(alloc, names.stream)?;
-    Ok(Some(ScriptLine::Call(Call::Put {
+    Ok(Some(ScriptAct::Call(Call::Put {
         client,
         stream,
         want,
@@ -65,18 +65,18 @@ pub(crate) fn put_line(alloc: Global, rest: &str) -> Result<Option<ScriptLine>, 
 }
 
 /// `add <client> <stream> <json>`: a client adds a subject to a stream.
-pub(crate) fn add_line(alloc: Global, rest: &str) -> Result<Option<ScriptLine>, Memory>
+pub(crate) fn add_line(alloc: Global, rest: &str) -> Result<Option<ScriptAct>, Memory>
     ensures { IfOk result (λ found. found ≡ option_and_then spec.add_line (names_cut rest.now)) }
 {
     let Some(names) = names_in(rest) else {
         return Ok(None);
     };
+    let client = Text::of(alloc, names.client)?;
+    let stream = Text::of(alloc, names.stream)?;
     let Some(subject) = subject_in(alloc, names.rest)? else {
         return Ok(None);
     };
-    let client = Text::of(alloc, names.client)?;
-    let stream = Text::of(alloc, names.stream)?;
-    Ok(Some(ScriptLine::Call(Call::Add {
+    Ok(Some(ScriptAct::Call(Call::Add {
         client,
         stream,
         subject,
@@ -84,18 +84,18 @@ pub(crate) fn add_line(alloc: Global, rest: &str) -> Result<Option<ScriptLine>, 
 }
 
 /// `remove <client> <stream> <json>`: a client removes a subject from a stream.
-pub(crate) fn remove_line(alloc: Global, rest: &str) -> Result<Option<ScriptLine>, Memory>
+pub(crate) fn remove_line(alloc: Global, rest: &str) -> Result<Option<ScriptAct>, Memory>
     ensures { IfOk result (λ found. found ≡ option_and_then spec.remove_line (names_cut rest.now)) }
 {
     let Some(names) = names_in(rest) else {
         return Ok(None);
     };
+    let client = Text::of(alloc, names.client)?;
+    let stream = Text::of(alloc, names.stream)?;
     let Some(subject) = subject_in(alloc, names.rest)? else {
         return Ok(None);
     };
-    let client = Text::of(alloc, names.client)?;
-    let stream = Text::of(alloc, names.stream)?;
-    Ok(Some(ScriptLine::Call(Call::Remove {
+    Ok(Some(ScriptAct::Call(Call::Remove {
         client,
         stream,
         subject,
@@ -103,7 +103,7 @@ pub(crate) fn remove_line(alloc: Global, rest: &str) -> Result<Option<ScriptLine
 }
 
 /// `status <client> <stream> <status>`: a client sets a stream's status.
-pub(crate) fn status_line(alloc: Global, rest: &str) -> Result<Option<ScriptLine>, Memory>
+pub(crate) fn status_line(alloc: Global, rest: &str) -> Result<Option<ScriptAct>, Memory>
     ensures { IfOk result (λ found. found ≡ option_and_then spec.status_line (names_cut rest.now)) }
 {
     let Some(names) = names_in(rest) else {
@@ -114,7 +114,7 @@ pub(crate) fn status_line(alloc: Global, rest: &str) -> Result<Option<ScriptLine
     };
     let client = Text::of(alloc, names.client)?;
     let stream = Text::of(alloc, names.stream)?;
-    Ok(Some(ScriptLine::Call(Call::SetStatus {
+    Ok(Some(ScriptAct::Call(Call::SetStatus {
         client,
         stream,
         status,
@@ -123,7 +123,7 @@ pub(crate) fn status_line(alloc: Global, rest: &str) -> Result<Option<ScriptLine
 }
 
 /// `poll <client> <stream> <max>`: a client asks for tokens, and tells nothing.
-pub(crate) fn poll_line(alloc: Global, rest: &str) -> Result<Option<ScriptLine>, Memory>
+pub(crate) fn poll_line(alloc: Global, rest: &str) -> Result<Option<ScriptAct>, Memory>
     ensures { IfOk result (λ found. found ≡ option_and_then spec.poll_line (names_cut rest.now)) }
 {
     let Some(names) = names_in(rest) else {
@@ -134,7 +134,7 @@ pub(crate) fn poll_line(alloc: Global, rest: &str) -> Result<Option<ScriptLine>,
     };
     let client = Text::of(alloc, names.client)?;
     let stream = Text::of(alloc, names.stream)?;
-    Ok(Some(ScriptLine::Call(Call::Poll {
+    Ok(Some(ScriptAct::Call(Call::Poll {
         client,
         stream,
         ask: ask_for(alloc, most),
@@ -153,7 +153,7 @@ fn ask_for(alloc: Global, most: u64) -> PollAsk
 }
 
 /// `delete <client> <stream>`: a client deletes a stream.
-pub(crate) fn delete_line(alloc: Global, rest: &str) -> Result<Option<ScriptLine>, Memory>
+pub(crate) fn delete_line(alloc: Global, rest: &str) -> Result<Option<ScriptAct>, Memory>
     ensures { IfOk result (λ found. found ≡ option_and_then spec.delete_line (client_cut rest.now)) }
 {
     let Some(words) = client_in(rest) else {
@@ -164,11 +164,11 @@ pub(crate) fn delete_line(alloc: Global, rest: &str) -> Result<Option<ScriptLine
     }
     let client = Text::of(alloc, words.word)?;
     let stream = Text::of(alloc, words.rest)?;
-    Ok(Some(ScriptLine::Call(Call::Delete { client, stream })))
+    Ok(Some(ScriptAct::Call(Call::Delete { client, stream })))
 }
 
 /// `verify <client> <stream>`: a client asks for a verification.
-pub(crate) fn verify_line(alloc: Global, rest: &str) -> Result<Option<ScriptLine>, Memory>
+pub(crate) fn verify_line(alloc: Global, rest: &str) -> Result<Option<ScriptAct>, Memory>
     ensures { IfOk result (λ found. found ≡ option_and_then spec.verify_line (client_cut rest.now)) }
 {
     let Some(words) = client_in(rest) else {
@@ -179,7 +179,7 @@ pub(crate) fn verify_line(alloc: Global, rest: &str) -> Result<Option<ScriptLine
     }
     let client = Text::of(alloc, words.word)?;
     let stream = Text::of(alloc, words.rest)?;
-    Ok(Some(ScriptLine::Call(Call::Verify {
+    Ok(Some(ScriptAct::Call(Call::Verify {
         client,
         stream,
         state: None,
@@ -187,7 +187,7 @@ pub(crate) fn verify_line(alloc: Global, rest: &str) -> Result<Option<ScriptLine
 }
 
 /// `operator <stream> <status>`: the operator sets a stream's status.
-pub(crate) fn operator_line(alloc: Global, rest: &str) -> Result<Option<ScriptLine>, Memory>
+pub(crate) fn operator_line(alloc: Global, rest: &str) -> Result<Option<ScriptAct>, Memory>
     ensures { IfOk result (λ found. found ≡ option_and_then spec.operator_line (stream_cut rest.now)) }
 {
     let Some(words) = stream_in(rest) else {
@@ -197,7 +197,7 @@ pub(crate) fn operator_line(alloc: Global, rest: &str) -> Result<Option<ScriptLi
         return Ok(None);
     };
     let stream = Text::of(alloc, words.word)?;
-    Ok(Some(ScriptLine::Call(Call::OperatorStatus {
+    Ok(Some(ScriptAct::Call(Call::OperatorStatus {
         stream,
         status,
         reason: None,
@@ -205,7 +205,7 @@ pub(crate) fn operator_line(alloc: Global, rest: &str) -> Result<Option<ScriptLi
 }
 
 /// `hand <stream>`: a round of pushes is handed tokens of a stream.
-pub(crate) fn hand_line(alloc: Global, rest: &str) -> Result<Option<ScriptLine>, Memory>
+pub(crate) fn hand_line(alloc: Global, rest: &str) -> Result<Option<ScriptAct>, Memory>
     ensures { IfOk result (λ found. found ≡ spec.hand_line rest.now) }
 {
     if !is_word(rest) {
@@ -214,5 +214,5 @@ pub(crate) fn hand_line(alloc: Global, rest: &str) -> Result<Option<ScriptLine>,
     let mut streams = Vec::new(alloc);
     streams.push(Text::of(alloc, rest)?)?;
     let streams = Items::of(streams);
-    Ok(Some(ScriptLine::Call(Call::Hand { streams })))
+    Ok(Some(ScriptAct::Call(Call::Hand { streams })))
 }

@@ -18,5 +18,8 @@ pub mod laws;
 mod line_word;
 mod numbers;
 mod script;
+mod script_node;
+mod stopping;
 
-pub use script::{ScriptLine, script_line};
+pub use script::{ScriptAct, ScriptLine, script_line};
+pub use script_node::ScriptNode;

@@ -39,6 +39,10 @@ pub(crate) enum LineWord {
     Answer,
     /// The receiver is asked about a subject.
     Check,
+    /// A node's disk stands still while a line is played.
+    Stop,
+    /// A node is loaded again.
+    Crash,
 }
 
 impl Listed for LineWord {
@@ -69,6 +73,8 @@ impl Listed for LineWord {
             LineWord::Deliver,
             LineWord::Answer,
             LineWord::Check,
+            LineWord::Stop,
+            LineWord::Crash,
         ]
     }
 
@@ -91,6 +97,8 @@ impl Listed for LineWord {
             LineWord::Deliver => "deliver",
             LineWord::Answer => "answer",
             LineWord::Check => "check",
+            LineWord::Stop => "stop",
+            LineWord::Crash => "crash",
         }
     }
 }

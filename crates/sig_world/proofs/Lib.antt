@@ -1,5 +1,5 @@
-pub mod ReplayLemmas
+mod EndsLemmas
+mod HearerLemmas
 mod ReplayerLemmas
+mod SenderLemmas
 mod OwedLines
-mod ScriptEvents
-mod ProperLines

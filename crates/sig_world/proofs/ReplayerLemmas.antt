@@ -1,189 +1,147 @@
--- What a line does to what a replay keeps.
+-- What any other line does to what a replay keeps, and what a line is to the script.
 use Rattle.std.specs.Option.{option_to_list}
-use Rattle.std.proofs.Common.{◌≡◌, ◌∙◌, ap, sym, subst, ℕ, ◌+◌, ◌<◌, List, [], ◌∷◌, ◌++◌, length, Option, Some, None, Bool, true, false, refl, append-nil, if◌then◌else◌}
-use Rattle.std.specs.Prelude.{Result, Ok, Err, OnOk, codes, decimal}
-use Rattle.std.proofs.lemmas.Str.{is_utf8-from_IsUtf8}
-use Rattle.sig_set.proofs.ProperClaims.{ascii}
-use Rattle.std.proofs.lemmas.Bool.{lt-leb}
+use Rattle.std.proofs.Common.{◌≡◌, ◌∙◌, ap, sym, subst, inl, inr, ℕ, suc, arith, ◌+◌, ◌<◌, ◌≤◌, min, List, [], ◌∷◌, ◌++◌, length, map, Option, Some, None, Bool, true, false, refl, append-nil, if◌then◌else◌}
+use Rattle.std.specs.Prelude.{◌⊎◌, Result, Ok, Err, IfErr, IfSome, IsSomeAnd, OnOk, codes, decimal, nat_lt, option_map}
+use Rattle.std.specs.Prelude.{Vec}
+use Rattle.std.specs.declared.alloc.Global.{Global}
+use Rattle.std.proofs.Math.Nat.{min-eq_left}
+use Rattle.std.proofs.lemmas.Bool.{false≢true, le-leb, lt-leb}
 use Rattle.sig_json.specs.declared.limits.TheConstants.{LAST_NUMBER, SCRIPT_LINE_BYTES}
+use Rattle.sig_entry.specs.Facts.{spelling_of}
+use Rattle.sig_entry.specs.Tokens.{token_spelling}
+use Rattle.sig_journal.specs.Added.{rests_with_it}
 use Rattle.sig_receiver.specs.declared.heard.Heard.{Heard}
+use Rattle.sig_receiver.specs.declared.heard.Heard.TheVariants.{Accepted, Seen, NotTaken}
 use Rattle.sig_receiver.specs.Journal.{answer_to, journal_by}
-use Rattle.sig_receiver.specs.Receiver.{Received, StandsFor, nothing, received, received_of}
+use Rattle.sig_receiver.specs.Receiver.{Received, heard_at, is_accepted, nothing, received_of}
+use Rattle.sig_receiver.proofs.KeptLemmas.{answers}
+use Rattle.sig_rxnode.specs.Answers.{heard_answer}
+use Rattle.sig_rxnode.specs.declared.answer.RxAnswer.{RxAnswer}
+use Rattle.sig_rxnode.specs.declared.answer.RxAnswer.TheVariants as answer
+use Rattle.sig_rxnode.specs.declared.call.RxCall.{RxCall}
+use Rattle.sig_rxnode.specs.declared.call.RxCall.TheVariants as asked
 use Rattle.sig_sessions.specs.Verdicts.{verdict_of}
 use Rattle.sig_sessions.specs.declared.verdict.Verdict.{Verdict}
 use Rattle.sig_subject.specs.declared.subject.Subject.{Subject}
 use Rattle.sig_set.specs.Written.{token_text}
+use Rattle.sig_jws.specs.declared.key.Key.{Key}
+use Rattle.sig_rxnode.specs.declared.rules.RxRules.{RxRules}
+use Rattle.sig_store.specs.declared.fault.NodeFault.TheVariants as fault
 use Rattle.sig_terms.specs.declared.answer.Answer.{Answer}
 use Rattle.sig_terms.specs.declared.call.Call.{Call}
 use Rattle.sig_terms.specs.declared.fact.Fact.{Fact}
 use Rattle.sig_terms.specs.declared.rules.Rules.{Rules}
-use Rattle.sig_terms.specs.declared.fault.PrepareFault.{PrepareFault}
 use Rattle.sig_terms.specs.declared.token.Token.{Token}
-use Rattle.sig_history.specs.Owed.{Sum, empty_sum, sum_of}
-use Rattle.sig_calls.specs.Proper.{is_proper_rules}
-use Rattle.sig_terms.specs.Reply.{Reply}
-use Rattle.sig_terms.specs.declared.fault.PrepareFault.TheVariants.{Number}
-use Rattle.sig_history.proofs.JoinLemmas.{joined}
 use Rattle.sig_calls.specs.Regular.{handed_by}
-use Rattle.sig_calls.specs.Table.{answer_of, change_of, over_top, prepared_of}
+use Rattle.sig_calls.specs.Table.{answer_of, change_of, over_top}
+use Rattle.sig_outside.specs.KeptDisk.{Kept}
+use Rattle.sig_rxnode.specs.Node as rxs
+use Rattle.sig_txnode.specs.Node.{NodeView}
+use Rattle.sig_txnode.specs.Answering.{answer_at, end_with, time_used}
+use Rattle.sig_still.specs.Stores.{end_at, past_end, with_kept}
+use Rattle.sig_nodes.specs.Records.{fact_records, token_records}
+use Rattle.sig_nodes.specs.Receiving.{MakesText, RxPasses, RxRoom, kept_of, rx_change, rx_end, rx_told}
+use Rattle.sig_nodes.specs.Sending.{MakesFact, sum_at, tx_change, tx_told}
+use Rattle.sig_nodes.specs.declared.halted.Halted.{Halted}
+use Rattle.sig_nodes.specs.declared.halted.Halted.TheVariants as halted
+use Rattle.sig_nodes.proofs.ToldLemmas.{EndsPast, IsTold, full_tells, ok_tells}
 use Rattle.sig_world.specs.declared.replayer.Replayer.{Replayer}
+use Rattle.sig_law.specs.World.{Reply}
 use Rattle.sig_command.specs.declared.stop.Stop.TheVariants.{Line, Full}
 use Rattle.sig_command.specs.declared.stop.TellFault.{TellFault}
 use Rattle.sig_command.specs.declared.stop.TellFault.TheVariants.{Stopped, Memory}
 use Rattle.sig_script.specs.Script.{utf8_line}
 use Rattle.sig_command.specs.Telling.{StopsAt}
-use Rattle.sig_law.specs.World.{World, call_recorded, heard_of, new_world, sum_in, with_facts, with_messages}
-use Rattle.sig_world.specs.Replay.{call_text, called, heard_text, numbered, played, played_call, played_check, played_delivery, played_found, played_time, replay_ends, replay_key, replay_rules, replay_telling, replay_trust, rows_in, script_stop, script_text, script_world, sum_after, verdict_word}
+use Rattle.sig_law.specs.World.{World, call_recorded, delivery_recorded, heard_of, new_world, sum_in, with_facts, with_journal, with_messages}
+use Rattle.sig_schedules.specs.Replay.{Played, answered_call, call_need, call_text, called, counted_at, crashed, delivered, delivery_need, fact_of, heard_delivery, heard_text, kept_word, numbered, played, played_call, played_check, played_crash, played_delivery, played_found, played_time, receiver_store, record_if, replay_ends, replay_rules, replay_store, replay_telling, replay_trust, script_stop, script_text, script_world, stopped_call, stopped_delivery, stopped_fact, stopped_message, unless_full, verdict_word}
+use Rattle.sig_world.proofs.HearerLemmas.{nil_one}
+use Rattle.sig_world.specs.Ends.{IsFullRx, IsFullTx, RxHaltedIn, RxIn, TxHaltedIn, TxIn, receiver_rules}
+use Rattle.sig_world.specs.Hearing.{token_call}
 use Rattle.sig_world.specs.Replaying.{Goes, GoesNot, IsAt, StandsAt}
-use Rattle.sig_world.proofs.ReplayLemmas.{line-goes, line-stops}
+use Rattle.sig_schedules.proofs.ReplayLemmas.{line-goes, line-stops}
 
--- the rules of scripts are proper
-pub proper : is_proper_rules replay_rules ≡ true
-proper = rw (is_utf8-from_IsUtf8 (codes "https://idp.example") (ascii (codes "https://idp.example") refl), is_utf8-from_IsUtf8 (codes "https://rp.example") (ascii (codes "https://rp.example") refl)) refl
-
--- ---- a call
-
--- what an answered call has found
-record Found (rules : Rules) (sum : Sum) (c : Call) (now : ℕ) (answer : Answer) (change : Option Fact) : Type 0 where
-  pub within : over_top rules sum c now ≡ false
-  pub answered : answer_of rules sum c now ≡ answer
-  pub changed : change_of rules sum c now ≡ change
-
-abbrev replied : Answer → Option Fact → Reply
-replied answer change = record { answer = answer; change = change }
-
-abbrev ok : Reply → Result Reply PrepareFault
-ok r = Ok r
-
-abbrev by_over : Bool → Reply → Result Reply PrepareFault
-by_over over r = if over then Err (Number (LAST_NUMBER + 1)) else Ok r
-
-found : (rules : Rules) (sum : Sum) (c : Call) (now : ℕ) (answer : Answer) (change : Option Fact)
-    → prepared_of rules sum c now ≡ Ok (replied answer change) → Found rules sum c now answer change
-found rules sum c now answer change h = by_test (over_top rules sum c now) refl h
-  where
-    by_test : (b : Bool) → over_top rules sum c now ≡ b
-        → by_over b (replied (answer_of rules sum c now) (change_of rules sum c now)) ≡ ok (replied answer change)
-        → Found rules sum c now answer change
-    by_test true e is = cc is
-    by_test false e is =
-        let t : replied (answer_of rules sum c now) (change_of rules sum c now) ≡ replied answer change = cc is in
-        record { within = e; answered = ap (λ (x : Reply). x.answer) t; changed = ap (λ (x : Reply). x.change) t }
-
--- with one more fact, or none
-sum-on : (base : Sum) (fs : List Fact) (o : Option Fact) → sum_after (sum_of base fs) o ≡ sum_of base (fs ++ option_to_list o)
-sum-on base fs None = ap (sum_of base) (sym (append-nil fs))
-sum-on base fs (Some f) = sym (joined base fs (f ∷ []))
-
--- a call was answered, its answer printed, its fact taken in, and what it hands out kept
-pub call-goes : (r r' : Replayer) (w : World) (c : Call) (number before : ℕ) (answer : Answer) (change : Option Fact) (text text' : List ℕ) → IsAt r w
-    → prepared_of replay_rules (sum_in replay_ends w) c w.time ≡ Ok (record { answer = answer; change = change })
-    → before ≡ length r.messages.items → text' ≡ text ++ call_text number before answer
-    → r'.rules ≡ r.rules → r'.trust ≡ r.trust → r'.outbox.sum ≡ sum_after r.outbox.sum change → r'.receiver ≡ r.receiver
-    → r'.messages.items ≡ r.messages.items ++ handed_by answer → r'.replies.items ≡ r.replies.items → r'.time ≡ r.time
-    → Goes (played_call number w c) r' text text'
-call-goes r r' w c number before answer change text text' at prepared count added rules trust sum receiver messages replies time =
-    let f = found replay_rules (sum_in replay_ends w) c w.time answer change prepared in
-    let kept : List Fact = w.facts ++ option_to_list (change_of replay_rules (sum_in replay_ends w) c w.time) in
-    let handed : List Token = handed_by (answer_of replay_rules (sum_in replay_ends w) c w.time) in
-    let on : World = record { facts = kept; journal = w.journal; messages = w.messages ++ handed; replies = w.replies; time = w.time } in
-    let goes : played_call number w c ≡ record {
-      stop = None;
-      text = call_text number (length w.messages) (answer_of replay_rules (sum_in replay_ends w) c w.time);
-      world = called w c;
-    } = ap (λ b. if b
-    then record { stop = Some (Full (LAST_NUMBER + 1)); text = []; world = w }
-    else record {
-      stop = None;
-      text = call_text number (length w.messages) (answer_of replay_rules (sum_in replay_ends w) c w.time);
-      world = called w c;
-    }) f.within in
-    let recorded : call_recorded replay_ends c w ≡ with_facts w kept = ap (λ b. if b then w else with_facts w kept) f.within in
-    let next : called w c ≡ on =
-    ap (λ b. if b then call_recorded replay_ends c w else with_messages (call_recorded replay_ends c w) ((call_recorded replay_ends c w).messages ++ handed)) f.within
-    ∙ ap (λ (v : World). with_messages v (v.messages ++ handed)) recorded in
-    subst (λ p. Goes p r' text text') (sym goes) (record {
-      going = refl;
-      added = added ∙ ap (λ n. text ++ call_text number n answer) (count ∙ ap length at.messages) ∙ ap (λ a. text ++ call_text number (length w.messages) a) (sym f.answered);
-      on = subst (IsAt r') (sym next) (record {
-        rules = rules ∙ at.rules;
-        trust = trust ∙ at.trust;
-        sum = sum ∙ ap (λ s. sum_after s change) at.sum ∙ sum-on (empty_sum replay_ends.store_id) w.facts change
-            ∙ ap (λ o. sum_of (empty_sum replay_ends.store_id) (w.facts ++ option_to_list o)) (sym f.changed);
-        received = subst (λ x. StandsFor x w.journal) (sym receiver) at.received;
-        messages = messages ∙ ap (λ ms. ms ++ handed_by answer) at.messages ∙ ap (λ a. w.messages ++ handed_by a) (sym f.answered);
-        replies = replies ∙ at.replies;
-        time = time ∙ at.time;
-      });
-    })
-
--- ---- a delivery
-
--- a message was heard, its answer printed and kept
-pub heard-goes : (r r' : Replayer) (w : World) (m : Token) (number before : ℕ) (heard : Heard) (token text text' : List ℕ) → IsAt r w
-    → token ≡ token_text m.claims r.rules.key
-    → ((journal : List (List ℕ)) → StandsFor r.receiver journal → heard ≡ answer_to r.trust [] (Some m.claims.iss) None journal token)
-    → ((journal : List (List ℕ)) → StandsFor r.receiver journal → StandsFor r'.receiver (journal_by heard journal token))
-    → before ≡ length r.replies.items → text' ≡ text ++ heard_text number before heard
-    → r'.rules ≡ r.rules → r'.trust ≡ r.trust → r'.outbox ≡ r.outbox → r'.messages.items ≡ r.messages.items
-    → r'.replies.items ≡ r.replies.items ++ record { message = m; heard = heard } ∷ [] → r'.time ≡ r.time
-    → Goes (played_delivery number w (Some m)) r' text text'
-heard-goes r r' w m number before heard token text text' at signed answer kept count added rules trust outbox messages replies time =
-    let spelled : token ≡ token_text m.claims replay_key = signed ∙ ap (λ (x : Rules). token_text m.claims x.key) at.rules in
-    let is : heard ≡ heard_of replay_ends w m =
-    answer w.journal at.received ∙ ap (λ t. answer_to t [] (Some m.claims.iss) None w.journal token) at.trust
-    ∙ ap (λ bytes. answer_to replay_trust [] (Some m.claims.iss) None w.journal bytes) spelled in
-    record {
-      going = refl;
-      added = added ∙ ap (λ n. text ++ heard_text number n heard) (count ∙ ap length at.replies) ∙ ap (λ h. text ++ heard_text number (length w.replies) h) is;
-      on = record {
-        rules = rules ∙ at.rules;
-        trust = trust ∙ at.trust;
-        sum = ap (λ o. o.sum) outbox ∙ at.sum;
-        received = subst (λ j. StandsFor r'.receiver j) (ap (λ h. journal_by h w.journal token) is ∙ ap (λ bytes. journal_by (heard_of replay_ends w m) w.journal bytes) spelled) (kept w.journal at.received);
-        messages = messages ∙ at.messages;
-        replies = replies ∙ ap (λ rs. rs ++ record { message = m; heard = heard } ∷ []) at.replies ∙ ap (λ h. w.replies ++ record { message = m; heard = h } ∷ []) is;
-        time = time ∙ at.time;
-      };
-    }
-
--- ---- a time, and a question
+-- ---- a time, a crash, and a question
 
 -- it is another time, and that was printed
-pub pass-goes : (r r' : Replayer) (w : World) (number time : ℕ) (text text' : List ℕ) → IsAt r w
+pub pass-goes : (r r' : Replayer) (w : World) (number time : ℕ) (text text' : List ℕ) → IsAt r w → time ≤ LAST_NUMBER
     → text' ≡ text ++ numbered number (codes "time " ++ decimal time)
-    → r'.rules ≡ r.rules → r'.trust ≡ r.trust → r'.outbox ≡ r.outbox → r'.receiver ≡ r.receiver
-    → r'.messages.items ≡ r.messages.items → r'.replies.items ≡ r.replies.items → r'.time ≡ time
+    → r'.rules ≡ r.rules → r'.tx ≡ r.tx → r'.rx ≡ r.rx → r'.messages.items ≡ r.messages.items → r'.replies.items ≡ r.replies.items → r'.time ≡ time
     → Goes (played_time number w time) r' text text'
-pass-goes r r' w number time text text' at added rules trust outbox receiver messages replies is = record {
+pass-goes r r' w number time text text' at within added rules tx rx messages replies is = record {
   going = refl;
   added = added;
   on = record {
     rules = rules ∙ at.rules;
-    trust = trust ∙ at.trust;
-    sum = ap (λ o. o.sum) outbox ∙ at.sum;
-    received = subst (λ x. StandsFor x w.journal) (sym receiver) at.received;
+    sent = subst (λ x. TxIn x w.facts) (sym tx) at.sent;
+    received = subst (λ x. RxIn x w.journal) (sym rx) at.received;
     messages = messages ∙ at.messages;
     replies = replies ∙ at.replies;
     time = is;
+    within = within;
   };
 }
 
--- the rows of what a receiver keeps are those of its journal
-pub rows-kept : (r : Replayer) (w : World) → IsAt r w → r.receiver.rows ≡ rows_in w
-rows-kept r w at =
-    let kept : received r.receiver ≡ received_of nothing w.journal = at.received in
-    ap (λ (s : Received). s.rows) kept
+-- a node was loaded again, and that was printed
+pub crash-goes : (r r' : Replayer) (w : World) (number : ℕ) (text text' : List ℕ) → IsAt r w → text' ≡ text ++ numbered number (codes "loaded")
+    → r'.rules ≡ r.rules → TxIn r'.tx w.facts → RxIn r'.rx w.journal → r'.messages.items ≡ r.messages.items → r'.replies.items ≡ r.replies.items → r'.time ≡ r.time
+    → Goes (played_crash number w) r' text text'
+crash-goes r r' w number text text' at added rules sent received messages replies time = record {
+  going = refl;
+  added = added;
+  on = record {
+    rules = rules ∙ at.rules;
+    sent = sent;
+    received = received;
+    messages = messages ∙ at.messages;
+    replies = replies ∙ at.replies;
+    time = time ∙ at.time;
+    within = at.within;
+  };
+}
 
 -- whether a subject may go on was printed
-pub check-goes : (r : Replayer) (w : World) (s : Subject) (number : ℕ) (v : Verdict) (text text' : List ℕ) → IsAt r w
-    → v ≡ verdict_of r.receiver.rows s → text' ≡ text ++ numbered number (verdict_word v.allow)
-    → Goes (played_check number w s) r text text'
-check-goes r w s number v text text' at is added = record {
-  going = refl;
-  added = added ∙ ap (λ (x : Verdict). text ++ numbered number (verdict_word x.allow)) (is ∙ ap (λ rows. verdict_of rows s) (rows-kept r w at));
-  on = at;
-}
+pub check-goes : (r r' : Replayer) (w : World) (s : Subject) (number : ℕ) (v : Verdict) (a : RxAnswer) (text text' : List ℕ) → IsAt r w
+    → rx_told receiver_rules w.journal (asked.Verdict s) ≡ a → RxIn r'.rx (w.journal ++ rx_change receiver_rules w.journal (asked.Verdict s))
+    → ((verdict : Verdict) → a ≡ answer.Verdict verdict → Some v ≡ Some verdict) → text' ≡ text ++ numbered number (verdict_word v.allow)
+    → r'.rules ≡ r.rules → r'.tx ≡ r.tx → r'.messages.items ≡ r.messages.items → r'.replies.items ≡ r.replies.items → r'.time ≡ r.time
+    → Goes (played_check number w s) r' text text'
+check-goes r r' w s number v a text text' at told holds found added rules tx messages replies time =
+    let is : v ≡ verdict_of (kept_of w.journal).rows s = verdict_same v (verdict_of (kept_of w.journal).rows s) (found (verdict_of (kept_of w.journal).rows s) (sym told)) in
+    record {
+      going = refl;
+      added = added ∙ ap (λ (x : Verdict). text ++ numbered number (verdict_word x.allow)) is;
+      on = record {
+        rules = rules ∙ at.rules;
+        sent = subst (λ x. TxIn x w.facts) (sym tx) at.sent;
+        received = subst (RxIn r'.rx) (append-nil w.journal) holds;
+        messages = messages ∙ at.messages;
+        replies = replies ∙ at.replies;
+        time = time ∙ at.time;
+        within = at.within;
+      };
+    }
+  where
+    verdict_same : (x y : Verdict) → Some x ≡ Some y → x ≡ y
+    verdict_same x y h = cc h
+
+-- no question stops a script
+pub check-not : (r : Replayer) (w : World) (s : Subject) (number : ℕ) (f : TellFault) → IsFullRx w.journal (asked.Verdict s) f → GoesNot (played_check number w s) f
+check-not r w s number (Stopped (Full n)) full = absurd (nil_one full.text full.change)
+check-not r w s number (Stopped (Line n)) full = absurd full
+check-not r w s number Memory full = tt
+
+-- ---- what stands at a place
+
+-- a message that the replay finds is the world's
+pub found-message : (r : Replayer) (w : World) (place : ℕ) (m copied : Token) (items : List Token) → IsAt r w → copied ≡ m → (let o : Option Token = Some m in o ≡ counted_at place items) → items ≡ r.messages.items
+    → counted_at place w.messages ≡ Some copied
+found-message r w place m copied items at same found kept =
+    ap (counted_at place) (sym (kept ∙ at.messages)) ∙ sym found ∙ ap (λ x. let o : Option Token = Some x in o) (sym same)
+
+-- a fact on a fault gives another
+pub on_err_one : {T E : Type 0} {P Q : E → Type 0} (r : Result T E) → ((e : E) → P e → Q e) → IfErr r P → IfErr r Q
+on_err_one (Ok x) f h = tt
+on_err_one (Err e) f h = f e h
 
 -- ---- a line
 

@@ -1,4 +1,3 @@
-pub mod Replay
-pub mod ReplayLaws
+pub mod Ends
+pub mod Hearing
 pub mod Replaying
-pub mod Schedules

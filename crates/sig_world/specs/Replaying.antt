@@ -1,21 +1,22 @@
 -- Where a replay stands between two lines.
-use Rattle.std.specs.Prelude.{◌≡◌, ℕ, List, ◌++◌, Some, None}
-use Rattle.sig_receiver.specs.Receiver.{StandsFor}
+use Rattle.std.specs.Prelude.{◌≡◌, ◌≤◌, ℕ, List, ◌++◌, Some, None}
+use Rattle.sig_json.specs.declared.limits.TheConstants.{LAST_NUMBER}
 use Rattle.sig_world.specs.declared.replayer.Replayer.{Replayer}
 use Rattle.sig_command.specs.declared.stop.TellFault.{TellFault}
 use Rattle.sig_command.specs.declared.stop.TellFault.TheVariants as faults
-use Rattle.sig_law.specs.World.{World, new_world, sum_in}
-use Rattle.sig_world.specs.Replay.{Played, replay_ends, replay_rules, replay_trust, script_world}
+use Rattle.sig_law.specs.World.{World, new_world}
+use Rattle.sig_schedules.specs.Replay.{Played, replay_rules, script_world}
+use Rattle.sig_world.specs.Ends.{RxIn, TxIn}
 
--- what the replay keeps is what the world comes to
+-- the nodes that are there hold what the world comes to, and so does what is beside them
 pub record IsAt (r : Replayer) (world : World) : Type 0 where
   pub rules : r.rules ≡ replay_rules
-  pub trust : r.trust ≡ replay_trust
-  pub sum : r.outbox.sum ≡ sum_in replay_ends world
-  pub received : StandsFor r.receiver world.journal
+  pub sent : TxIn r.tx world.facts
+  pub received : RxIn r.rx world.journal
   pub messages : r.messages.items ≡ world.messages
   pub replies : r.replies.items ≡ world.replies
   pub time : r.time ≡ world.time
+  pub within : world.time ≤ LAST_NUMBER
 
 -- it has taken just these lines
 abbrev pub StandsAt : Replayer → List (List ℕ) → Type 0

@@ -3,12 +3,12 @@
 ghost use Rattle.std.specs.Prelude.{◌≡◌, ◌++◌, ◌+◌, ◌<◌, ◌≤◌, IfOk, OnOk, codes, decimal, length, string_bytes};
 ghost use Rattle.sig_event.specs.Status.{status_text};
 ghost use Rattle.sig_receiver.specs.Printed.{yes_or_no};
-ghost use Rattle.sig_world.specs.Replay.{call_text, handed_text, heard_text, heard_word, issued_text, messages_text, notice_text, numbered, sets_text, token_name, verdict_word};
+ghost use Rattle.sig_schedules.specs.Replay.{call_text, handed_text, heard_text, heard_word, issued_text, kept_word, messages_text, notice_text, numbered, sets_text, token_name, verdict_word};
 
 use sig_event::Status;
 use sig_json::{Bytes, Items, Listed, Memory, Text};
-use sig_outbox::{Answer, Issued, Token};
 use sig_receiver::Heard;
+use sig_terms::{Answer, Issued, Token};
 use std::alloc::Global;
 
 /// Adds what the transmitter's answer prints, after so many messages.
@@ -74,6 +74,31 @@ pub(crate) fn add_verdict(
     ensures { OnOk result (text.new ≡ text.old ++ numbered number (verdict_word allow)) }
 {
     add_line(alloc, text, number, verdict_for(allow))
+}
+
+/// Adds that a node was loaded again.
+pub(crate) fn add_loaded(alloc: Global, text: &mut Bytes, number: u64) -> Result<(), Memory>
+    ensures { OnOk result (text.new ≡ text.old ++ numbered number (codes "loaded")) }
+{
+    add_line(alloc, text, number, "loaded")
+}
+
+/// Adds whether what an end was to keep stands in its store.
+pub(crate) fn add_halted(
+    alloc: Global,
+    text: &mut Bytes,
+    number: u64,
+    kept: bool,
+) -> Result<(), Memory>
+    ensures { OnOk result (text.new ≡ text.old ++ numbered number (kept_word kept)) }
+{
+    add_line(alloc, text, number, word_kept(kept))
+}
+
+fn word_kept(kept: bool) -> &'static str
+    ensures { result.now ≡ kept_word kept }
+{
+    if kept { "kept" } else { "lost" }
 }
 
 /// Adds what the receiver's answer prints, after so many answers.

@@ -1,47 +1,54 @@
-//! Both ends under a script's lines.
+//! Both nodes under a script's lines.
 
-ghost use Rattle.std.specs.Prelude.{◌≡◌, ◌++◌, IfOk, OnOk, option_map};
-ghost use Rattle.sig_set.specs.Spelled.{code_text};
-ghost use Rattle.sig_calls.specs.Regular.{handed_by};
-ghost use Rattle.sig_ledger.specs.Room.{Ready};
-ghost use Rattle.sig_outbox.specs.State.{IsReady};
-ghost use Rattle.sig_law.specs.World as world;
-ghost use Rattle.sig_world.specs.Replay.{counted_at, sum_after};
+ghost use Rattle.std.specs.Prelude.{◌≡◌, option_map};
+ghost use Rattle.sig_schedules.specs.Replay.{counted_at};
+ghost use Rattle.sig_sessions.specs.declared.verdict.Verdict.{Verdict as Told};
 
-use crate::replay_text::{add_call, add_heard, add_time, add_verdict};
+use crate::ending::{print_owed, print_received};
+use crate::hearer::{ask_rx, reload_rx};
+use crate::replay_text::{add_loaded, add_time, add_verdict};
 use crate::reply::Reply;
-use crate::running::print_owed;
-use crate::settings::{STORE_ID, replay_rules, replay_trust};
+use crate::sender::reload_tx;
+use crate::settings::{RECEIVER_STORE_ID, STORE_ID, receiver_rules, replay_rules};
 use sig_command::{LinesEnd, Stop, TellFault, Teller};
-use sig_fold::print_table;
 use sig_json::limits::SCRIPT_LINE_BYTES;
-use sig_json::{Bytes, Items, Memory, Text};
-use sig_outbox::{Answer, Call, Outbox, Outcome, PrepareFault, Prepared, Rules, Step, Token};
+use sig_json::{Bytes, Memory};
+use sig_nodes::{new_rx, new_tx};
 use sig_outside::Sink;
-use sig_receiver::{Heard, Receiver};
-use sig_script::{ScriptLine, script_line};
-use sig_set::{Code, PreparedTrust, signed_claims};
+use sig_rxnode::{RxAnswer, RxCall, RxNode};
+use sig_script::{ScriptAct, ScriptLine, ScriptNode, script_line};
+use sig_sessions::Verdict;
+use sig_still::StillDisk;
 use sig_subject::Subject;
+use sig_terms::{Rules, Token};
+use sig_txnode::TxNode;
 use std::alloc::Global;
 
-/// A transmitter's core and a receiver, the messages between them, the answers to these, and the time.
-#[derive(Drop)]
+/// A transmitter's node and a receiver's, the messages between them, the answers to these, and the time. A node is missing
+/// once memory ran out as it was loaded again.
 pub struct Replayer {
     pub(crate) alloc: Global,
     pub(crate) rules: Rules,
-    pub(crate) trust: PreparedTrust,
-    pub(crate) outbox: Outbox,
-    pub(crate) receiver: Receiver,
+    pub(crate) tx: Option<TxNode<StillDisk>>,
+    pub(crate) rx: Option<RxNode<StillDisk>>,
     pub(crate) messages: Vec<Token>,
     pub(crate) replies: Vec<Reply>,
     pub(crate) time: u64,
 }
 
+/// How a node's disk stands still: after how many of its calls, at most four, and what it rests with in each byte that isn't
+/// synced.
+#[derive(Clone, Copy, Debug)]
+pub(crate) struct Halt {
+    pub(crate) calls: u64,
+    pub(crate) fill: u8,
+}
+
 impl Teller for Replayer {
     ghost use Rattle.sig_json.specs.declared.limits.TheConstants.{SCRIPT_LINE_BYTES};
-    ghost use Rattle.sig_world.specs.Replay.{replay_telling};
+    ghost use Rattle.sig_schedules.specs.Replay.{replay_telling};
+    ghost use Rattle.sig_schedules.specs.ReplayLaws.{script_grows, script_stays};
     ghost use Rattle.sig_world.specs.Replaying.{StandsAt};
-    ghost use Rattle.sig_world.specs.ReplayLaws.{script_grows, script_stays};
     ghost use Rattle.std.specs.Prelude.{refl};
 
     ghost told = { λ r. replay_telling };
@@ -74,8 +81,8 @@ impl Teller for Replayer {
     }
 
     fn close<O: Sink>(&self, gathered: &mut Bytes, output: &mut O) -> LinesEnd {
-        match print_table(self.alloc, &self.receiver, gathered, output) {
-            LinesEnd::Done => print_owed(self.alloc, &self.outbox, output),
+        match print_received(self.alloc, &self.rx, gathered, output) {
+            LinesEnd::Done => print_owed(self.alloc, &self.tx, output),
             ending => ending,
         }
     }
@@ -88,32 +95,55 @@ impl Teller for Replayer {
 }
 
 impl Replayer {
-    ghost use Rattle.std.specs.Prelude.{◌≡◌, ◌<◌, ℕ, List, IfErr, IfOk, OnOk, Option, None, length};
-    ghost use Rattle.sig_world.specs.Replay.{played, played_answer, played_call, played_check, played_delivery, played_line, played_time, counted_at};
+    ghost use Rattle.std.specs.Prelude.{◌≡◌, ◌≤◌, ℕ, List, IfErr, IfOk, OnOk, Option};
+    ghost use Rattle.sig_journal.specs.Added.{rests_with_it};
+    ghost use Rattle.sig_json.specs.declared.limits.TheConstants.{LAST_NUMBER};
+    ghost use Rattle.sig_law.specs.World.{World, new_world};
+    ghost use Rattle.sig_schedules.specs.Replay.{played, played_act, played_check, played_crash, played_line, played_time, stopped_act};
+    ghost use Rattle.sig_script.specs.Laws.{IsProperLine, IsProperScriptAct};
     ghost use Rattle.sig_world.specs.Replaying.{Goes, GoesNot, IsAt};
-    ghost use Rattle.sig_world.specs.Replay.{replay_ends, replay_rules};
-    ghost use Rattle.sig_law.specs.World.{World, new_world, sum_in};
-    ghost use Rattle.sig_calls.specs.Proper.{IsProperCall};
-    ghost use Rattle.sig_calls.specs.Table.{prepared_of};
-    ghost use Rattle.sig_ledger.specs.Steps.{reply_in};
-    ghost use Rattle.sig_script.specs.Laws.{IsProperLine};
-    ghost use Rattle.sig_outbox.specs.State.{IsReady};
-    ghost use Rattle.std.specs.Prelude.{Ok, Some};
 
-    /// Both ends over new stores, at time 0, with the rules and the trust of scripts.
+    /// Both nodes over new stores, at time 0, with the settings of scripts.
     pub fn new(alloc: Global) -> Result<Replayer, Memory>
         ensures { IfOk result (λ r. IsAt r new_world) }
     {
-        Ok(Replayer {
-            alloc,
-            rules: replay_rules(alloc)?,
-            trust: replay_trust(alloc)?,
-            outbox: Outbox::new(alloc, STORE_ID),
-            receiver: Receiver::new(alloc),
-            messages: Vec::new(alloc),
-            replies: Vec::new(alloc),
-            time: 0,
-        })
+        let rules = replay_rules(alloc)?;
+        let settings = receiver_rules(alloc)?;
+        let tx = new_tx(alloc, replay_rules(alloc)?, STORE_ID)?;
+        match new_rx(alloc, settings, RECEIVER_STORE_ID) {
+            Ok(rx) => Ok(Replayer {
+                alloc,
+                rules,
+                tx: Some(tx),
+                rx: Some(rx),
+                messages: Vec::new(alloc),
+                replies: Vec::new(alloc),
+                time: 0,
+            }),
+            Err(Memory) => {
+                let (_, _) = tx.into_disks();
+                Err(Memory)
+            }
+        }
+    }
+
+    /// Both stores are let go.
+    pub fn end(self) {
+        let Replayer {
+            alloc: _,
+            rules: _,
+            tx,
+            rx,
+            messages: _,
+            replies: _,
+            time: _,
+        } = self;
+        if let Some(tx) = tx {
+            let (_, _) = tx.into_disks();
+        }
+        if let Some(rx) = rx {
+            let (_, _) = rx.into_disks();
+        }
     }
 
     /// Plays the line of a number, and adds what it prints.
@@ -165,15 +195,77 @@ impl Replayer {
         match line {
             ScriptLine::Skipped => Ok(()),
             ScriptLine::Time { time } => Ok(self.pass(number, *time, text)?),
-            ScriptLine::Call(call) => self.call(number, call, text),
-            ScriptLine::Deliver { message } => self.deliver(number, *message, text),
-            ScriptLine::Answer { reply } => self.answer(number, *reply, text),
-            ScriptLine::Check { subject } => Ok(self.check(number, subject, text)?),
+            ScriptLine::Act(act) => self.act(number, act, text),
+            ScriptLine::Check { subject } => self.check(number, subject, text),
+            ScriptLine::Stop {
+                node,
+                calls,
+                fill,
+                act,
+            } => {
+                let halt = Halt {
+                    calls: *calls,
+                    fill: *fill,
+                };
+                self.halt(number, *node, halt, act, text)
+            }
+            ScriptLine::Crash { node } => Ok(self.crash(number, *node, text)?),
+        }
+    }
+
+    // An end acts.
+    pub(crate) fn act(
+        &mut self,
+        number: u64,
+        act: &ScriptAct,
+        text: &mut Bytes,
+    ) -> Result<(), TellFault>
+        requires stands { (world : World) × IsAt self.old world }
+        requires proper { IsProperScriptAct act.now }
+        ensures plays { OnOk result ((world : World) → IsAt self.old world → Goes (played_act number world act.now) self.new text.old text.new) }
+        ensures stops { IfErr result (λ fault. (world : World) → IsAt self.old world → GoesNot (played_act number world act.now) fault) }
+    {
+        match act {
+            ScriptAct::Call(call) => self.call(number, call, text),
+            ScriptAct::Deliver { message } => self.deliver(number, *message, text),
+            ScriptAct::Answer { reply } => self.answer(number, *reply, text),
+        }
+    }
+
+    // An end acts while a node's disk stands still.
+    fn halt(
+        &mut self,
+        number: u64,
+        node: ScriptNode,
+        halt: Halt,
+        act: &ScriptAct,
+        text: &mut Bytes,
+    ) -> Result<(), TellFault>
+        requires stands { (world : World) × IsAt self.old world }
+        requires proper { IsProperScriptAct act.now }
+        requires calls { halt.calls ≤ 4 }
+        ensures plays { OnOk result ((world : World) → IsAt self.old world → Goes (stopped_act number world node (rests_with_it halt.calls halt.fill) act.now) self.new text.old text.new) }
+        ensures stops { IfErr result (λ fault. (world : World) → IsAt self.old world → GoesNot (stopped_act number world node (rests_with_it halt.calls halt.fill) act.now) fault) }
+    {
+        match node {
+            ScriptNode::Tx => match act {
+                ScriptAct::Call(call) => self.halt_call(number, call, halt, text),
+                ScriptAct::Deliver { message } => self.deliver(number, *message, text),
+                ScriptAct::Answer { reply } => self.halt_answer(number, *reply, halt, text),
+            },
+            ScriptNode::Rx => match act {
+                ScriptAct::Call(call) => self.call(number, call, text),
+                ScriptAct::Deliver { message } => {
+                    self.halt_delivery(number, *message, halt, text)
+                }
+                ScriptAct::Answer { reply } => self.answer(number, *reply, text),
+            },
         }
     }
 
     // It is another time.
     fn pass(&mut self, number: u64, time: u64, text: &mut Bytes) -> Result<(), Memory>
+        requires { time ≤ LAST_NUMBER }
         ensures { OnOk result ((world : World) → IsAt self.old world → Goes (played_time number world time) self.new text.old text.new) }
     {
         add_time(self.alloc, text, number, time)?;
@@ -181,182 +273,58 @@ impl Replayer {
         Ok(())
     }
 
+    // A node is loaded again.
+    fn crash(&mut self, number: u64, node: ScriptNode, text: &mut Bytes) -> Result<(), Memory>
+        ensures { OnOk result ((world : World) → IsAt self.old world → Goes (played_crash number world) self.new text.old text.new) }
+    {
+        match node {
+            ScriptNode::Tx => reload_tx(self.alloc, &mut self.tx)?,
+            ScriptNode::Rx => reload_rx(self.alloc, &mut self.rx)?,
+        }
+        add_loaded(self.alloc, text, number)
+    }
+
     // The receiver is asked about a subject.
-    fn check(&self, number: u64, subject: &Subject, text: &mut Bytes) -> Result<(), Memory>
-        ensures { OnOk result ((world : World) → IsAt self.now world → Goes (played_check number world subject.now) self.now text.old text.new) }
+    fn check(&mut self, number: u64, subject: &Subject, text: &mut Bytes) -> Result<(), TellFault>
+        ensures plays { OnOk result ((world : World) → IsAt self.old world → Goes (played_check number world subject.now) self.new text.old text.new) }
+        ensures stops { IfErr result (λ fault. (world : World) → IsAt self.old world → GoesNot (played_check number world subject.now) fault) }
     {
-        let told = self.receiver.verdict(subject);
-        add_verdict(self.alloc, text, number, told.allow)
-    }
-
-    fn answer(&mut self, number: u64, place: u64, text: &mut Bytes) -> Result<(), TellFault>
-        requires { (world : World) × IsAt self.old world }
-        ensures plays { OnOk result ((world : World) → IsAt self.old world → Goes (played_answer number world (counted_at place world.replies)) self.new text.old text.new) }
-        ensures stops { IfErr result (λ fault. (world : World) → IsAt self.old world → GoesNot (played_answer number world (counted_at place world.replies)) fault) }
-    {
-        match counted(self.replies.as_slice(), place) {
-            None => Err(refused(number)),
-            Some(reply) => match settle_call(self.alloc, reply) {
-                Ok(call) => self.bring(number, call, text),
-                Err(Memory) => Err(TellFault::Memory),
-            },
-        }
-    }
-
-    // A call of the replay's own; it is dropped by itself, so that this function has no part of its many kinds.
-    fn bring(&mut self, number: u64, call: Call, text: &mut Bytes) -> Result<(), TellFault>
-        requires stands { (world : World) × IsAt self.old world }
-        requires proper { IsProperCall call }
-        ensures plays { OnOk result ((world : World) → IsAt self.old world → Goes (played_call number world call) self.new text.old text.new) }
-        ensures stops { IfErr result (λ fault. (world : World) → IsAt self.old world → GoesNot (played_call number world call) fault) }
-    {
-        let done = self.call(number, &call, text);
+        let call = RxCall::Verdict {
+            subject: subject.copy(self.alloc)?,
+        };
+        let told = ask_rx(&mut self.rx, &call);
         drop(call);
-        done
-    }
-
-    fn deliver(&mut self, number: u64, place: u64, text: &mut Bytes) -> Result<(), TellFault>
-        ensures plays { OnOk result ((world : World) → IsAt self.old world → Goes (played_delivery number world (counted_at place world.messages)) self.new text.old text.new) }
-        ensures stops { IfErr result (λ fault. (world : World) → IsAt self.old world → GoesNot (played_delivery number world (counted_at place world.messages)) fault) }
-    {
-        match counted(self.messages.as_slice(), place) {
-            None => Err(refused(number)),
-            Some(message) => {
-                let message = message.copy(self.alloc)?;
-                self.hear(number, message, text)?;
-                Ok(())
-            }
+        match verdict_in(told?) {
+            Some(verdict) => Ok(add_verdict(self.alloc, text, number, verdict.allow)?),
+            // No other answer comes to the question.
+            None => Err(TellFault::Memory),
         }
     }
+}
 
-    // A message reaches the receiver.
-    fn hear(&mut self, number: u64, message: Token, text: &mut Bytes) -> Result<(), Memory>
-        ensures { OnOk result ((world : World) → IsAt self.old world → Goes (played_delivery number world (Some message)) self.new text.old text.new) }
-    {
-        let token = signed_claims(self.alloc, &message.claims, &self.rules.key)?;
-        let heard = self.receiver.hear(
-            &self.trust,
-            Some(&message.claims.iss),
-            None,
-            token.as_slice(),
-        )?;
-        add_heard(self.alloc, text, number, self.replies.len() as u64, heard)?;
-        self.replies.push(Reply::of(message, heard))?;
-        Ok(())
-    }
-
-    // A call at the transmitter.
-    fn call(&mut self, number: u64, call: &Call, text: &mut Bytes) -> Result<(), TellFault>
-        requires stands { (world : World) × IsAt self.old world }
-        requires proper { IsProperCall call.now }
-        ensures plays { OnOk result ((world : World) → IsAt self.old world → Goes (played_call number world call.now) self.new text.old text.new) }
-        ensures stops { IfErr result (λ fault. (world : World) → IsAt self.old world → GoesNot (played_call number world call.now) fault) }
-    {
-        match self.outbox.prepare(&self.rules, call, self.time) {
-            Ok(step) => {
-                self.take(number, step, text)?;
-                Ok(())
-            }
-            Err(PrepareFault::Number(past)) => Err(TellFault::Stopped(Stop::Full(past))),
-            Err(PrepareFault::Memory) => Err(TellFault::Memory),
-        }
-    }
-
-    // Prints the answer of a call, takes in its fact, and keeps the messages that it hands out.
-    fn take(&mut self, number: u64, step: Step, text: &mut Bytes) -> Result<(), Memory>
-        requires { IsReady self.old.outbox step.change }
-        ensures { OnOk result ((world : World) (call : Call) → IsAt self.old world
-            → prepared_of replay_rules (sum_in replay_ends world) call world.time ≡ Ok (reply_in step)
-            → Goes (played_call number world call) self.new text.old text.new) }
-    {
-        let Step { answer, change } = step;
-        add_call(
-            self.alloc,
-            text,
-            number,
-            self.messages.len() as u64,
-            &answer,
-        )?;
-        commit(&mut self.outbox, change);
-        keep_handed(&mut self.messages, answer)
+// The verdict that an answer is, where it is one.
+fn verdict_in(answer: RxAnswer) -> Option<Verdict>
+    ensures { (verdict : Told) → answer ≡ RxAnswer.Verdict verdict → result ≡ Some verdict }
+{
+    match answer {
+        RxAnswer::Verdict(verdict) => Some(verdict),
+        _ => None,
     }
 }
 
 // The line of a number is refused.
-fn refused(number: u64) -> TellFault
+pub(crate) fn refused(number: u64) -> TellFault
     ensures { result ≡ TellFault.Stopped (Stop.Line number) }
 {
     TellFault::Stopped(Stop::Line(number))
 }
 
-// Takes in the fact of a call, where there is one.
-fn commit(outbox: &mut Outbox, change: Option<Prepared>)
-    requires { IsReady outbox.old change }
-    ensures { outbox.new.sum ≡ sum_after outbox.old.sum (option_map (λ (r : Ready). r.fact) change) }
-{
-    match change {
-        None => {}
-        Some(prepared) => outbox.commit(prepared),
-    }
-}
-
-// Keeps the tokens that an answer hands out.
-fn keep_handed(messages: &mut Vec<Token>, answer: Answer) -> Result<(), Memory>
-    ensures { OnOk result (messages.new.items ≡ messages.old.items ++ handed_by answer) }
-{
-    match answer {
-        Answer::Sets { tokens, more: _ } => keep(messages, tokens),
-        Answer::Handed { tokens } => keep(messages, tokens),
-        _ => Ok(()),
-    }
-}
-
-fn keep(messages: &mut Vec<Token>, tokens: Items<Token>) -> Result<(), Memory>
-    ensures { OnOk result (messages.new.items ≡ messages.old.items ++ tokens) }
-{
-    let mut tokens = tokens.into_vec();
-    messages.append(&mut tokens)?;
-    Ok(())
-}
-
 // What stands at a place that is counted from 1.
-fn counted<T>(items: &[T], place: u64) -> Option<&T>
+pub(crate) fn counted<T>(items: &[T], place: u64) -> Option<&T>
     ensures { option_map (λ item. item.now) result ≡ counted_at place items.now }
 {
     if place == 0 {
         return None;
     }
     items.get((place - 1) as usize)
-}
-
-// The call that brings an answer of the receiver to the transmitter.
-fn settle_call(alloc: Global, reply: &Reply) -> Result<Call, Memory>
-    ensures { IfOk result (λ call. call ≡ world.settle_call reply.now) }
-{
-    Ok(Call::Settle {
-        stream: reply.message().stream.copy(alloc)?,
-        number: reply.message().number,
-        outcome: outcome_of(alloc, reply.heard())?,
-    })
-}
-
-fn outcome_of(alloc: Global, heard: Heard) -> Result<Outcome, Memory>
-    ensures { IfOk result (λ outcome. outcome ≡ world.outcome_of heard) }
-{
-    match heard {
-        Heard::Accepted | Heard::Seen => Ok(Outcome::Accepted),
-        Heard::NotTaken { code, spot: _ } => refusal_outcome(alloc, code),
-    }
-}
-
-fn refusal_outcome(alloc: Global, code: Code) -> Result<Outcome, Memory>
-    ensures { IfOk result (λ outcome. outcome ≡ world.refusal_outcome (code_text code)) }
-{
-    let code = code.as_str();
-    if code == "authentication_failed" || code == "access_denied" {
-        return Ok(Outcome::Keep);
-    }
-    Ok(Outcome::Reported {
-        code: Text::of(alloc, code)?,
-    })
 }

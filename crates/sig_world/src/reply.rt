@@ -1,5 +1,5 @@
-use sig_outbox::Token;
 use sig_receiver::Heard;
+use sig_terms::Token;
 use std::marker::Model;
 
 /// The receiver's answer to a message.

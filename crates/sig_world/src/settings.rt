@@ -1,17 +1,24 @@
 //! The settings of both ends under a script.
 
 ghost use Rattle.std.specs.Prelude.{◌≡◌, ◌∷◌, [], IfOk, codes};
-ghost use Rattle.sig_world.specs.Replay as spec;
+ghost use Rattle.sig_schedules.specs.Replay as spec;
+ghost use Rattle.sig_world.specs.Ends as ends;
 
 use sig_json::{Bytes, Items, Memory, Text};
 use sig_jws::Key;
-use sig_outbox::{Client, Defaults, Rules};
-use sig_set::{Issuer, PreparedTrust, Trust};
+use sig_rxnode::RxRules;
+use sig_set::{Issuer, Trust};
+use sig_terms::{Client, Defaults, Rules};
 use std::alloc::Global;
 
 /// The transmitter's store, 6ba7b810-9dad-11d1-80b4-00c04fd430c8.
 pub(crate) const STORE_ID: [u8; 16] = [
     0x6b, 0xa7, 0xb8, 0x10, 0x9d, 0xad, 0x11, 0xd1, 0x80, 0xb4, 0x00, 0xc0, 0x4f, 0xd4, 0x30, 0xc8,
+];
+
+/// The receiver's store, 6ba7b811-9dad-11d1-80b4-00c04fd430c8.
+pub(crate) const RECEIVER_STORE_ID: [u8; 16] = [
+    0x6b, 0xa7, 0xb8, 0x11, 0x9d, 0xad, 0x11, 0xd1, 0x80, 0xb4, 0x00, 0xc0, 0x4f, 0xd4, 0x30, 0xc8,
 ];
 
 /// The transmitter's rules.
@@ -30,8 +37,20 @@ pub(crate) fn replay_rules(alloc: Global) -> Result<Rules, Memory>
     })
 }
 
-/// Whom the receiver trusts, prepared for all tokens of a script.
-pub(crate) fn replay_trust(alloc: Global) -> Result<PreparedTrust, Memory>
+/// The receiver's settings: nobody pushes to it, and nobody is polled.
+pub(crate) fn receiver_rules(alloc: Global) -> Result<RxRules, Memory>
+    ensures { IfOk result (λ rules. rules ≡ ends.receiver_rules) }
+{
+    Ok(RxRules {
+        trust: replay_trust(alloc)?,
+        principals: Items::of(Vec::new(alloc)),
+        reader: Text::of(alloc, "")?,
+        peer: None,
+    })
+}
+
+// Whom the receiver trusts.
+fn replay_trust(alloc: Global) -> Result<Trust, Memory>
     ensures { IfOk result (λ trust. trust ≡ spec.replay_trust) }
 {
     let mut keys = Vec::new(alloc);
@@ -41,11 +60,10 @@ pub(crate) fn replay_trust(alloc: Global) -> Result<PreparedTrust, Memory>
         iss: Text::of(alloc, "https://idp.example")?,
         keys: Items::of(keys),
     })?;
-    let trust = Trust {
+    Ok(Trust {
         audience: Text::of(alloc, "https://rp.example")?,
         issuers: Items::of(issuers),
-    };
-    PreparedTrust::of(alloc, &trust)
+    })
 }
 
 fn clients(alloc: Global) -> Result<Items<Client>, Memory>

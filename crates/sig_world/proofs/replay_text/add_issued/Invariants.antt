@@ -1,5 +1,5 @@
 use Rattle.std.proofs.Common.{◌≡◌, ◌++◌, drop}
-use Rattle.sig_world.specs.Replay.{issued_text}
+use Rattle.sig_schedules.specs.Replay.{issued_text}
 use Rattle.sig_world.proofs.replay_text.add_issued.Given as goal
 
 abbrev pub invariant-loop-token : goal.invariant-loop-token

@@ -1,5 +1,5 @@
 use Rattle.std.proofs.Common.{◌≡◌, ◌+◌, ◌++◌, drop}
-use Rattle.sig_world.specs.Replay.{messages_text}
+use Rattle.sig_schedules.specs.Replay.{messages_text}
 use Rattle.sig_world.proofs.replay_text.add_messages.Given as goal
 
 abbrev pub invariant-loop-token : goal.invariant-loop-token

@@ -1,7 +1,6 @@
-use Rattle.std.proofs.Common.{◌∙◌, ap}
-use Rattle.sig_calls.specs.Proper.{is_proper_rules}
-use Rattle.sig_world.proofs.ReplayerLemmas.{proper}
+use Rattle.sig_world.proofs.SenderLemmas.{call-tells}
 use Rattle.sig_world.proofs.replayer.Replayer.call.Goals as goal
 
-pub take-requires : goal.take-requires
-take-requires c = c.in-Ok.ensures.ready (ap is_proper_rules c.requires.stands.1.rules ∙ proper) c.requires.proper
+pub returns-in_ok-tell_answer-in-Ok-clause-plays : goal.returns-in_ok-tell_answer-in-Ok-clause-plays
+returns-in_ok-tell_answer-in-Ok-clause-plays c =
+    call-tells c.args.self.now _ c.ask_tx.new.tx c.args.call.now c.args.number c.args.text.now _ c.in-Ok.answer c.in-Ok.ensures.took c.in_ok-tell_answer-in-Ok.ensures

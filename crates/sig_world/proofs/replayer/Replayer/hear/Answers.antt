@@ -1,10 +1,12 @@
-use Rattle.std.proofs.Common.{rules, ◌≡◌, ◌∙◌, ap, length, [], ◌∷◌, ◌++◌, refl}
-use Rattle.sig_world.proofs.ReplayerLemmas.{heard-goes}
+use Rattle.sig_world.proofs.HearerLemmas.{hear-stops, hear-tells}
+use Rattle.sig_world.proofs.ReplayerLemmas.{on_ok_one}
 use Rattle.sig_world.proofs.replayer.Replayer.hear.Goals as goal
 
-pub returns : goal.returns
-returns c =
-    let count : c.len.result ≡ length c.args.self.now.replies.items = search rules in
-    λ world at. heard-goes c.args.self.now _ world c.args.message c.args.number c.len.result c.in_ok-heard.heard c.as_slice.result.now c.args.text.now c.add_heard.new.text at
-    (c.as_slice.ensures ∙ c.in_ok-token.ensures) c.in_ok-heard.ensures.answer c.in_ok-heard.ensures.kept
-    count c.in_ok-add_heard.ensures refl refl refl refl (c.in_ok-push.ensures.items ∙ ap (λ r. c.args.self.now.replies.items ++ r ∷ []) c.of.ensures) refl
+pub returns-in-Ok-clause-plays : goal.returns-in-Ok-clause-plays
+returns-in-Ok-clause-plays c =
+    on_ok_one c.tell_heard.result
+    (λ tells. hear-tells c.args.self.now _ c.ask_rx-told.new.rx c.args.message c.in_ok-call.call c.args.number c.args.text.now _ c.in-Ok.answer c.in_ok-call.ensures c.in-Ok.ensures.took tells)
+    c.tell_heard.ensures.told
+
+pub returns-in-Err-clause-stops : goal.returns-in-Err-clause-stops
+returns-in-Err-clause-stops c = hear-stops c.args.self.now c.args.message c.in_ok-call.call c.args.number c.in-Err.fault c.in_ok-call.ensures c.in-Err.ensures.full

@@ -3,7 +3,7 @@ use Rattle.std.specs.Prelude.{option_copied}
 use Rattle.sig_json.specs.declared.limits.TheConstants.{SCRIPT_LINE_BYTES}
 use Rattle.sig_command.specs.Telling.{IsLineOf, StopsAt}
 use Rattle.sig_law.specs.World.{new_world}
-use Rattle.sig_world.specs.Replay.{played, replay_telling, script_world}
+use Rattle.sig_schedules.specs.Replay.{played, replay_telling, script_world}
 use Rattle.sig_world.specs.Replaying.{Goes, StandsAt}
 use Rattle.sig_world.proofs.ReplayerLemmas.{line-not, line-taken, long-stops}
 use Rattle.sig_world.proofs.replayer.ReplayerTeller.tell.Goals as goal

@@ -1,0 +1,4 @@
+mod KeptLemmas
+pub mod ToldLemmas
+mod SendingLemmas
+mod ReceivingLemmas

@@ -1,0 +1,4 @@
+pub mod ReplayRules
+pub mod ReplayLemmas
+mod ScriptEvents
+mod ProperLines

@@ -1,5 +1,0 @@
-use Rattle.sig_world.proofs.ProperLines as lines
-use Rattle.sig_world.proofs.laws.every_script_is_lawful.Goals as goal
-
-pub returns : goal.returns
-returns c = lines.every_script_is_lawful c.every_schedule.ensures c.lines_are_proper.ensures
