@@ -76,3 +76,5 @@ check_run() { # INPUT WORDS..
 check_run examples/tokens.txt fold https://idp.example https://rp.example MDEyMzQ1Njc4OWFiY2RlZjAxMjM0NTY3ODlhYmNkZWY
 check_run examples/first.txt replay
 check_run examples/replay.txt replay
+python3 -B tools/check_stops.py script >"$folder/stops.txt"
+check_run "$folder/stops.txt" replay

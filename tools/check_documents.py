@@ -93,9 +93,9 @@ def without_space(text):
 def check_help(text):
     """The script's help has the commands that the program knows, and the two words of the script."""
     told = re.findall(r"^\./signals (\S+)", text, re.M)
-    paths = [f"crates/{crate}/src/command.rt" for crate in crates()]
+    paths = [f"crates/{crate}/src/{file}.rt" for crate in crates() for file in ("command", "asking")]
     sources = [text_of(path) for path in paths if os.path.exists(os.path.join(TOP, path))]
-    known = re.findall(r'name == "(\w+)"', "".join(sources))
+    known = re.findall(r'\bname(?:\.as_str\(\))? [!=]= "(\w+)"', "".join(sources))
     if told != known + ["--unproved", "help"]:
         tell("signals", f"its help has {told}, and the program knows {known}")
 

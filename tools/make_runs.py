@@ -156,8 +156,13 @@ def stops(why, line, number=2, first=(CREATE,), text="1 made acme-1\n"):
 # The lines that a script hasn't, group by group.
 NO_LINES = {
     "no word of a script, or a word in another place": [
-        "destroy acme acme-1", "Create acme {}", " create acme {}", " ", " # a comment", "stop rx 3 5a deliver 1", "crash tx", "read acme acme-1",
+        "destroy acme acme-1", "Create acme {}", " create acme {}", " ", " # a comment", "read acme acme-1",
     ],
+    "no node, no number of calls, no byte, or no line that is played meanwhile": [
+        "crash", "crash ", "crash acme", "crash TX", "crash tx ", "crash tx rx", "crash  tx", "stop", "stop ", "stop tx", "stop tx 0", "stop tx 0 00", "stop tx 0 00 ",
+    ]
+    + [f"stop {words} {CREATE}" for words in ["acme 0 00", "RX 0 00", "tx 5 00", "tx 00 00", "tx -1 00", "tx  00", "tx x 00", "tx 0 5A", "tx 0 5g", "tx 0 5", "tx 0 5a5", "tx 0", " tx 0 00", "tx 0 00 "]]
+    + [f"stop tx 0 00 {line}" for line in ["time 1", "check " + opaque("s-77"), "stop tx 0 00 " + CREATE, "crash tx", "# a comment", "create other {}", "deliver 1", "answer 1"]],
     "no time": ["time", "time ", "time -1", "time +1", "time 01", "time 1 ", "time 1.0", "time 4611686018427387905"],
     "no client of a script, or no want": [
         "create", "create acme", "create acme ", "create other {}", "create ACME {}", "create  acme {}", "create acme {}x", "create acme {",
@@ -288,6 +293,14 @@ def messages():
          handed + "5 accepted a1\n6 settled 1\n7 settled 0\n8 seen a2\n9 settled 0\n10 sets 1 more no\n10 m3 acme-1.2\n" + GOOD_ROW + "owed acme-1 1\n")
 
 
+def crashes():
+    front = "1 made acme-1\n2 published 1\n2 token acme-1.1\n3 sets 1 more no\n3 m1 acme-1.1\n"
+    for fill, halted, heard in [("5a", "kept", "seen"), ("00", "lost", "accepted")]:
+        case(f"A receiver's disk stands still as it opens the gate of a record, and rests with {fill} there.", ["replay"],
+             [CREATE, publication(ONE, opaque("s-77")), POLL, f"stop rx 3 {fill} deliver 1", "deliver 1", "answer 1"], 0,
+             front + f"4 {halted}\n5 {heard} a1\n6 settled 1\n" + GOOD_ROW + "owed acme-1 0\n")
+
+
 def statuses():
     first = publication(ONE, opaque("s-77"))
     case("A paused stream owes and offers nothing; once enabled it offers, and disabled it owes nothing.", ["replay"],
@@ -315,14 +328,14 @@ def scripts():
     for group in script_cases.GROUPS:
         why, lines, status, text = script_cases.script(group)
         case(why, ["replay"], lines, status, text)
-    for seed, count, most in [(1, 400, 3), (2, 600, 6), (3, 900, 14)]:
-        lines = walk_scripts.script(seed, count, most)
+    for seed, count, most, crashing in [(1, 400, 3, False), (2, 600, 6, False), (3, 900, 14, False), (4, 700, 4, True)]:
+        lines = walk_scripts.script(seed, count, most, crashing)
         printed, status = replay_model.replay([line.encode() for line in lines])
         case(f"{count} lines that are drawn.", ["replay"], lines, status, "".join(line + "\n" for line in printed))
 
 
 def main():
-    for part in (usage, fold, refusals, streams, messages, statuses, scripts):
+    for part in (usage, fold, refusals, streams, messages, crashes, statuses, scripts):
         part()
     if sys.argv[1:] == ["cases"]:
         sys.stdout.write("\n".join(cases))

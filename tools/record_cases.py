@@ -2,7 +2,8 @@
 
 A record is a list of parts, as docs/FORMATS.md has them: a kind, a number, a flag, a status, a count, or a text with its
 length. A row names the part that is cut or breaks its rule, and the offset is the number of bytes before that part. No code
-reads a record here, so the answers stand on the layout alone. `record_cases.py` prints each line and after `> ` its answer.
+reads a record here, so the answers stand on the layout alone; `cases/records.py` reads them, and has to answer the same.
+`record_cases.py` prints each line and after `> ` its answer.
 """
 
 import base64
@@ -188,11 +189,17 @@ def cases():
             yield f"{word} {spelled(data + NO)}", f"bad {len(data)}"
 
 
-def main():
+def lines():
+    """The lines, each before its answer."""
+    out = []
     for line, answer in cases():
-        print(line)
-        if answer is not None:
-            print(f"> {answer}")
+        out += [line] if answer is None else [line, f"> {answer}"]
+    return [line.encode() for line in out]
+
+
+def main():
+    for line in lines():
+        print(line.decode())
 
 
 if __name__ == "__main__":

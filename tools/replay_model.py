@@ -5,6 +5,7 @@
 owes by going over it (RFC 8935, RFC 8936; OpenID Shared Signals Framework 1.0, sections 7 and 8). It was written from the
 documents; nothing in it comes from the program under test.
 """
+import copy
 import re
 import sys
 
@@ -18,6 +19,7 @@ LINE_BYTES, PAYLOAD_BYTES = 65536, 6000
 PAGE, MOST_STREAMS, INTERVAL = 32, 16, 60
 CLIENTS = ["acme", "zeta"]
 ISSUER, AUDIENCE = "https://idp.example", "https://rp.example"
+GATE = 0x5A
 STORE = "6ba7b810-9dad-11d1-80b4-00c04fd430c8"
 BY_POLL = {"method": "poll"}
 VERIFICATION, UPDATED = (PREFIX + "ssf/event-type/" + name for name in ["verification", "stream-updated"])
@@ -83,6 +85,32 @@ def publication(text):
     return given["id"], given["sub_id"], given["uri"], given["payload"]
 
 
+def node(word):
+    if word not in ["tx", "rx"]:
+        raise Refused
+    return word
+
+
+def calls(word):
+    if word not in ["0", "1", "2", "3", "4"]:
+        raise Refused
+    return int(word)
+
+
+def byte(word):
+    if not re.fullmatch("[0-9a-f]{2}", word):
+        raise Refused
+    return int(word, 16)
+
+
+def inner(text):
+    """The line that is played while a disk stands still: one by which an end acts."""
+    found = parsed(text.encode())
+    if not found or found[0] in ["time", "stop", "crash", "check"]:
+        raise Refused
+    return found
+
+
 FORMS = {
     "time": [number],
     "create": [client, want],
@@ -100,8 +128,11 @@ FORMS = {
     "deliver": [number],
     "answer": [number],
     "check": [subject],
+    "stop": [node, calls, byte, inner],
+    "crash": [node],
 }
-JSON = [want, subject, publication]
+# what takes the rest of a line
+JSON = [want, subject, publication, inner]
 
 
 def parsed(line):
@@ -325,10 +356,50 @@ class World:
     def check(self, whom):
         return ["allow" if table.verdict(self.rows, whom)["allow"] else "deny"]
 
+    # -- crashes
+
+    def crash(self, end):
+        # what a crash leaves of a store that isn't written is that store
+        return ["loaded"]
+
+    def stop(self, end, calls, fill, line):
+        word, said = line
+        after = copy.deepcopy(self)
+        printed = getattr(after, word)(*said)
+        if end != ("rx" if word == "deliver" else "tx") or not records(self, after, word, said, printed):
+            self.__dict__ = after.__dict__
+            return printed
+        # an addition is four calls of the device: write, sync, open the gate, sync. With two it isn't begun to be opened;
+        # with three the gate was written, not synced, and rests as the fill
+        kept = calls == 4 or calls == 3 and fill == GATE
+        if kept:
+            # what is told is lost: no answer comes, and no token is handed out
+            after.messages, after.replies = after.messages[: len(self.messages)], after.replies[: len(self.replies)]
+            self.__dict__ = after.__dict__
+        return ["kept" if kept else "lost"]
+
     def end(self):
         lines = [table.row_text(place, row) for place, row in enumerate(self.rows, 1)]
         lines.append(f"rows {len(self.rows)} tokens {len(self.journal)}")
         return lines + [f"owed {held} {len(self.owed(held))}" for held in self.in_order()]
+
+
+def records(before, after, word, said, printed):
+    """Whether a line's end keeps something in its store, which it does by a record of what changed."""
+    first = printed[0].split(" ")[0]
+    if word == "deliver":
+        return first == "accepted"
+    if word == "answer":
+        return first == "settled" and printed[0] == "settled 1"
+    if word in ["poll", "hand"]:
+        return False
+    if word == "publish":
+        return first == "published" and said[0][0] not in before.published
+    if word in ["patch", "put", "status", "operator", "add", "remove"]:
+        # they keep something where the stream isn't as it was
+        held = said[0] if word == "operator" else said[1]
+        return first in ["conf", "state", "added", "removed"] and before.streams[held] != after.streams[held]
+    return first in ["made", "gone", "asked"]
 
 
 def label(token):

@@ -2,11 +2,11 @@
 
     route {"bearer":"acme-bearer","body":"{}","method":"POST","path":"/ssf/stream","query":""}
 
-`bearer` and `query` may be left out, and `gateway`, true, says that there is one. The rules are those of RULES. The answer
-is `path`, `method <allowed>`, `auth`, `bad <place>`, `poll` with an object of client and stream, or `call` with an object of
-the call's name and parts, whose members are in byte order. Each row names its answer by hand, from OpenID Shared Signals
-Framework 1.0, sections 7.1 and 8.1, and docs/FORMATS.md; `answer` computes it from the table of routes, and has to give
-the same. `lines` gives the cases with their answers.
+`bearer`, `body` and `query` may be left out, and `gateway`, true, says that there is one. The rules are those of RULES. The
+answer is `path`; `method` with the allowed ones or `bad` with the place, as a JSON string; `auth`; `poll` with an object of
+client and stream; or `call` with an object of the call's name and parts, whose members are in byte order. Each row names its
+answer by hand, from OpenID Shared Signals Framework 1.0, sections 7.1 and 8.1, and docs/FORMATS.md; `answer` computes it from
+the table of routes, and has to give the same. `lines` gives the cases with their answers.
 
 Nothing here comes from the program under test.
 """
@@ -15,7 +15,7 @@ import urllib.parse
 
 from cases import subjects
 from cases.streams import check_publication, check_want, want_object
-from cases.values import Fault, NotJson, dump, read
+from cases.values import Fault, NotJson, dump, member, optional, read
 
 RULES = {"clients": {"acme-bearer": "acme", "zeta-bearer": "zeta"}, "operator": "operator-bearer"}
 STATUSES = ["enabled", "paused", "disabled"]
@@ -139,6 +139,16 @@ def asked(name, case, client):
     return "call " + dump({"call": name, **whose, **parts})
 
 
+def read_case(case):
+    """The case, where it has the form of one."""
+    for name in ("method", "path"):
+        member(case, name, str)
+    for name in ("bearer", "body", "query"):
+        optional(case, name, str)
+    optional(case, "gateway", bool)
+    return case
+
+
 def is_at(path, pattern):
     return path.startswith(pattern) if pattern.endswith("/") else path == pattern
 
@@ -149,7 +159,7 @@ def answer(case):
         return "path"
     found = [route for route in here if route[0] == case["method"]]
     if not found:
-        return "method " + ", ".join(route[0] for route in here)
+        return "method " + dump(", ".join(route[0] for route in here))
     _, _, whose, name = found[0]
     shown = case.get("bearer")
     client = RULES["clients"].get(shown) if whose == "client" else None
@@ -158,7 +168,7 @@ def answer(case):
     try:
         return asked(name, case, client)
     except Bad as place:
-        return "bad " + place.args[0]
+        return "bad " + dump(place.args[0])
 
 
 def case(method, path, bearer=None, body=None, query=None, **more):
@@ -181,7 +191,7 @@ SECURE = {"delivery": {"method": "urn:ietf:rfc:8935", "endpoint_url": "https://r
 NOTHING = '{"delivery":null,"description":null,"requested":null}'
 OPAQUE = {"format": "opaque", "id": "s-77"}
 NEWS = {"publish_id": ID, "sub_id": OPAQUE, "events": {SR: {}}}
-STREAM_METHODS = "method POST, GET, PATCH, PUT, DELETE"
+STREAM_METHODS = 'method "POST, GET, PATCH, PUT, DELETE"'
 
 # Each row: what it shows, the case, the answer.
 ROWS = [
@@ -192,18 +202,18 @@ ROWS = [
     ("an empty list requests nothing", client("POST", "/ssf/stream", {"events_requested": []}), 'call {"call":"create","client":"acme","want":{"delivery":null,"description":null,"requested":[]}}'),
     ("delivery by push", client("POST", "/ssf/stream", {"delivery": PUSHED, "description": "a"}), f'call {{"call":"create","client":"acme","want":{{"delivery":{PUSH_WANT},"description":"a","requested":null}}}}'),
     ("the other client", case("POST", "/ssf/stream", "zeta-bearer", {}), f'call {{"call":"create","client":"zeta","want":{NOTHING}}}'),
-    ("https without a gateway", client("POST", "/ssf/stream", SECURE), "bad endpoint_url"),
+    ("https without a gateway", client("POST", "/ssf/stream", SECURE), 'bad "endpoint_url"'),
     ("https with a gateway", client("POST", "/ssf/stream", SECURE, gateway=True), 'call {"call":"create","client":"acme","want":{"delivery":{"authorization":null,"host":"rx.example","method":"push","path":"/","port":443,"secure":true,"url":"https://rx.example"},"description":null,"requested":null}}'),
     ("members that nobody reads", client("POST", "/ssf/stream", {"aud": 7, "stream_id": 1}), f'call {{"call":"create","client":"acme","want":{NOTHING}}}'),
-    ("push without a URL", client("POST", "/ssf/stream", {"delivery": {"method": "urn:ietf:rfc:8935"}}), "bad endpoint_url"),
-    ("another method of delivery", client("POST", "/ssf/stream", {"delivery": {"method": "mail"}}), "bad method"),
-    ("the members of a want in order", client("POST", "/ssf/stream", {"delivery": [], "description": 1, "events_requested": 1}), "bad delivery"),
-    ("the second of them", client("POST", "/ssf/stream", {"description": None, "events_requested": None}), "bad description"),
-    ("the third of them", client("POST", "/ssf/stream", {"events_requested": [1]}), "bad events_requested"),
-    ("a wrong authorization", client("POST", "/ssf/stream", {"delivery": {**PUSHED, "authorization_header": "\n"}}), "bad authorization_header"),
-    ("a body that is no JSON", client("POST", "/ssf/stream", "{"), "bad body"),
-    ("an empty body", client("POST", "/ssf/stream"), "bad body"),
-    ("a body that is no object", client("POST", "/ssf/stream", []), "bad body"),
+    ("push without a URL", client("POST", "/ssf/stream", {"delivery": {"method": "urn:ietf:rfc:8935"}}), 'bad "endpoint_url"'),
+    ("another method of delivery", client("POST", "/ssf/stream", {"delivery": {"method": "mail"}}), 'bad "method"'),
+    ("the members of a want in order", client("POST", "/ssf/stream", {"delivery": [], "description": 1, "events_requested": 1}), 'bad "delivery"'),
+    ("the second of them", client("POST", "/ssf/stream", {"description": None, "events_requested": None}), 'bad "description"'),
+    ("the third of them", client("POST", "/ssf/stream", {"events_requested": [1]}), 'bad "events_requested"'),
+    ("a wrong authorization", client("POST", "/ssf/stream", {"delivery": {**PUSHED, "authorization_header": "\n"}}), 'bad "authorization_header"'),
+    ("a body that is no JSON", client("POST", "/ssf/stream", "{"), 'bad "body"'),
+    ("an empty body", client("POST", "/ssf/stream"), 'bad "body"'),
+    ("a body that is no object", client("POST", "/ssf/stream", []), 'bad "body"'),
     ("section 8.1.1.2: all streams are read", client("GET", "/ssf/stream"), 'call {"call":"read_all","client":"acme"}'),
     ("another name in the query", client("GET", "/ssf/stream", query="stream=acme-1"), 'call {"call":"read_all","client":"acme"}'),
     ("one stream is read", client("GET", "/ssf/stream", query="stream_id=acme-1"), 'call {"call":"read","client":"acme","stream":"acme-1"}'),
@@ -214,49 +224,49 @@ ROWS = [
     ("a body isn't read there", client("GET", "/ssf/stream", {"stream_id": "acme-1"}), 'call {"call":"read_all","client":"acme"}'),
     ("section 8.1.1.3: a stream is changed", client("PATCH", "/ssf/stream", {"stream_id": "acme-1", "description": "b"}), 'call {"call":"patch","client":"acme","stream":"acme-1","want":{"delivery":null,"description":"b","requested":null}}'),
     ("section 8.1.1.4: a stream is replaced", client("PUT", "/ssf/stream", {"stream_id": "acme-1"}), f'call {{"call":"put","client":"acme","stream":"acme-1","want":{NOTHING}}}'),
-    ("the stream's name comes last", client("PATCH", "/ssf/stream", {"stream_id": 1, "description": 2}), "bad description"),
-    ("no stream's name", client("PATCH", "/ssf/stream", {}, "stream_id=acme-1"), "bad stream_id"),
-    ("no stream's name", client("PUT", "/ssf/stream", {"stream_id": None}), "bad stream_id"),
+    ("the stream's name comes last", client("PATCH", "/ssf/stream", {"stream_id": 1, "description": 2}), 'bad "description"'),
+    ("no stream's name", client("PATCH", "/ssf/stream", {}, "stream_id=acme-1"), 'bad "stream_id"'),
+    ("no stream's name", client("PUT", "/ssf/stream", {"stream_id": None}), 'bad "stream_id"'),
     ("section 8.1.1.5: a stream is deleted", client("DELETE", "/ssf/stream", query="stream_id=acme-1"), 'call {"call":"delete","client":"acme","stream":"acme-1"}'),
-    ("which the query has to name", client("DELETE", "/ssf/stream", {"stream_id": "acme-1"}), "bad stream_id"),
+    ("which the query has to name", client("DELETE", "/ssf/stream", {"stream_id": "acme-1"}), 'bad "stream_id"'),
     ("RFC 9110, section 10.2.1: the methods at a path, in order", client("HEAD", "/ssf/stream"), STREAM_METHODS),
     ("methods are told apart by case", client("get", "/ssf/stream"), STREAM_METHODS),
     ("a wrong method comes before a wrong bearer", case("OPTIONS", "/ssf/stream"), STREAM_METHODS),
     ("section 8.1.2.1: a status is read", client("GET", "/ssf/status", query="stream_id=acme-1"), 'call {"call":"get_status","client":"acme","stream":"acme-1"}'),
-    ("which the query has to name", client("GET", "/ssf/status"), "bad stream_id"),
+    ("which the query has to name", client("GET", "/ssf/status"), 'bad "stream_id"'),
     ("section 8.1.2.2: a status is set", client("POST", "/ssf/status", {"stream_id": "acme-1", "status": "paused", "reason": "r"}), 'call {"call":"set_status","client":"acme","reason":"r","status":"paused","stream":"acme-1"}'),
     ("without a reason", client("POST", "/ssf/status", {"stream_id": "acme-1", "status": "enabled"}), 'call {"call":"set_status","client":"acme","status":"enabled","stream":"acme-1"}'),
-    ("its members in order", client("POST", "/ssf/status", {"stream_id": 1, "status": "off", "reason": None}), "bad reason"),
-    ("the second of them", client("POST", "/ssf/status", {"status": "Enabled"}), "bad status"),
-    ("the third of them", client("POST", "/ssf/status", {"status": "enabled"}), "bad stream_id"),
-    ("its methods", client("PUT", "/ssf/status"), "method GET, POST"),
+    ("its members in order", client("POST", "/ssf/status", {"stream_id": 1, "status": "off", "reason": None}), 'bad "reason"'),
+    ("the second of them", client("POST", "/ssf/status", {"status": "Enabled"}), 'bad "status"'),
+    ("the third of them", client("POST", "/ssf/status", {"status": "enabled"}), 'bad "stream_id"'),
+    ("its methods", client("PUT", "/ssf/status"), 'method "GET, POST"'),
     ("section 8.1.3.2: a subject is added", client("POST", "/ssf/subjects/add", {"stream_id": "acme-1", "subject": OPAQUE, "verified": 7}), 'call {"call":"add","client":"acme","stream":"acme-1","subject":{"format":"opaque","id":"s-77"}}'),
     ("section 8.1.3.3: a subject is removed", client("POST", "/ssf/subjects/remove", {"stream_id": "acme-1", "subject": OPAQUE}), 'call {"call":"remove","client":"acme","stream":"acme-1","subject":{"format":"opaque","id":"s-77"}}'),
-    ("its members in order", client("POST", "/ssf/subjects/add", {"subject": {}}), "bad stream_id"),
-    ("RFC 9493, section 3: no subject", client("POST", "/ssf/subjects/add", {"stream_id": "acme-1", "subject": {"format": "opaque"}}), "bad subject"),
-    ("no subject at all", client("POST", "/ssf/subjects/remove", {"stream_id": "acme-1"}), "bad subject"),
-    ("its method", client("DELETE", "/ssf/subjects/add"), "method POST"),
+    ("its members in order", client("POST", "/ssf/subjects/add", {"subject": {}}), 'bad "stream_id"'),
+    ("RFC 9493, section 3: no subject", client("POST", "/ssf/subjects/add", {"stream_id": "acme-1", "subject": {"format": "opaque"}}), 'bad "subject"'),
+    ("no subject at all", client("POST", "/ssf/subjects/remove", {"stream_id": "acme-1"}), 'bad "subject"'),
+    ("its method", client("DELETE", "/ssf/subjects/add"), 'method "POST"'),
     ("section 8.1.4.2: a verification is asked for", client("POST", "/ssf/verification", {"stream_id": "acme-1", "state": "s"}), 'call {"call":"verify","client":"acme","state":"s","stream":"acme-1"}'),
     ("with an empty state", client("POST", "/ssf/verification", {"stream_id": "acme-1", "state": ""}), 'call {"call":"verify","client":"acme","state":"","stream":"acme-1"}'),
     ("without one", client("POST", "/ssf/verification", {"stream_id": "acme-1"}), 'call {"call":"verify","client":"acme","stream":"acme-1"}'),
-    ("a state that is no text", client("POST", "/ssf/verification", {"stream_id": "acme-1", "state": None}), "bad state"),
-    ("no stream's name", client("POST", "/ssf/verification", {"state": 1}), "bad stream_id"),
+    ("a state that is no text", client("POST", "/ssf/verification", {"stream_id": "acme-1", "state": None}), 'bad "state"'),
+    ("no stream's name", client("POST", "/ssf/verification", {"state": 1}), 'bad "stream_id"'),
     ("RFC 8936, section 2: a poll, whose body is read later", client("POST", "/poll/acme-1", "{"), 'poll {"client":"acme","stream":"acme-1"}'),
     ("the rest of its path as it stands", client("POST", "/poll/a%2Fb/c+d"), 'poll {"client":"acme","stream":"a%2Fb/c+d"}'),
     ("an empty rest", client("POST", "/poll/"), 'poll {"client":"acme","stream":""}'),
     ("no rest", client("POST", "/poll"), "path"),
-    ("its method", client("GET", "/poll/acme-1"), "method POST"),
+    ("its method", client("GET", "/poll/acme-1"), 'method "POST"'),
     ("without a bearer", case("POST", "/poll/acme-1"), "auth"),
     ("the operator publishes", operator("/operator/publish", NEWS), f'call {{"call":"publish","id":"{ID}","payload":{{}},"sub_id":{{"format":"opaque","id":"s-77"}},"uri":"{SR}"}}'),
     ("RFC 9562, section 4: a name is kept with hyphens, in lower case", operator("/operator/publish", {**NEWS, "publish_id": "URN:UUID:".lower() + "ABCDEFAB-1111-1111-1111-111111111111"}), f'call {{"call":"publish","id":"abcdefab-1111-1111-1111-111111111111","payload":{{}},"sub_id":{{"format":"opaque","id":"s-77"}},"uri":"{SR}"}}'),
-    ("its members in order", operator("/operator/publish", {"publish_id": "1", "sub_id": 1, "events": 1}), "bad publish_id"),
-    ("the second of them", operator("/operator/publish", {"publish_id": ID, "events": 1}), "bad sub_id"),
-    ("the third of them", operator("/operator/publish", {**NEWS, "events": {SR: {}, "https://example.com/x": {}}}), "bad events"),
-    ("no body", operator("/operator/publish", "null"), "bad body"),
+    ("its members in order", operator("/operator/publish", {"publish_id": "1", "sub_id": 1, "events": 1}), 'bad "publish_id"'),
+    ("the second of them", operator("/operator/publish", {"publish_id": ID, "events": 1}), 'bad "sub_id"'),
+    ("the third of them", operator("/operator/publish", {**NEWS, "events": {SR: {}, "https://example.com/x": {}}}), 'bad "events"'),
+    ("no body", operator("/operator/publish", "null"), 'bad "body"'),
     ("the operator sets a status", operator("/operator/status", {"stream_id": "acme-1", "status": "disabled", "reason": ""}), 'call {"call":"operator_status","reason":"","status":"disabled","stream":"acme-1"}'),
-    ("its members in order", operator("/operator/status", {"reason": 1, "status": 1}), "bad reason"),
+    ("its members in order", operator("/operator/status", {"reason": 1, "status": 1}), 'bad "reason"'),
     ("the operator asks for pushes", operator("/operator/deliver", {"stream_id": "acme-1"}), 'call {"call":"deliver","stream":"acme-1"}'),
-    ("no stream's name", operator("/operator/deliver", {}), "bad stream_id"),
+    ("no stream's name", operator("/operator/deliver", {}), 'bad "stream_id"'),
     ("RFC 9110, section 15.5.2: no bearer", case("GET", "/ssf/stream"), "auth"),
     ("an empty bearer", case("GET", "/ssf/stream", ""), "auth"),
     ("a bearer in another case", case("GET", "/ssf/stream", "Acme-bearer"), "auth"),
@@ -289,7 +299,7 @@ def refusals():
         yield f"{method} {path} with a body that says nothing", case(method, at, right, "{}")
 
 
-def lines():
+def cases():
     """The cases, each with what it shows and its answer."""
     for shows, given, by_hand in ROWS:
         found = answer(given)
@@ -300,6 +310,10 @@ def lines():
         yield shows, "route " + dump(given), answer(given)
 
 
+def lines():
+    """The same as lines of a part, each before its answer."""
+    return [line.encode() for shows, case_line, found in cases() for line in (f"# {shows}.", case_line, "> " + found)]
+
+
 if __name__ == "__main__":
-    for shows, line, found in lines():
-        print(f"# {shows}\n{line}\n> {found}")
+    print(b"\n".join(lines()).decode())

@@ -11,7 +11,7 @@ import sys
 import replay_model
 
 FOLDER = pathlib.Path(__file__).resolve().parent / "scripts"
-GROUPS = ["streams", "statuses", "subjects", "tokens", "verification", "absent", "sizes", "filters", "names"]
+GROUPS = ["streams", "statuses", "subjects", "tokens", "verification", "absent", "sizes", "filters", "names", "crashes"]
 PREFIX = "https://schemas.openid.net/secevent/"
 
 

@@ -36,9 +36,10 @@ def uri(event):
 class Drawn:
     """Draws lines. It counts what was made, so that most messages and answers that it names are there."""
 
-    def __init__(self, seed, streams):
+    def __init__(self, seed, streams, crashing):
         self.rng = random.Random(seed)
         self.most = streams
+        self.crashing = crashing
         self.now = 1_700_000_000
         self.lines = []
 
@@ -80,6 +81,17 @@ class Drawn:
 
     def line(self, world):
         """A line that the model takes."""
+        if self.crashing and self.rng.random() < 0.05:
+            return f"crash {self.rng.choice(['tx', 'rx'])}"
+        line = self.plain_line(world)
+        if not self.crashing or line.split(" ")[0] in ["time", "check"] or self.rng.random() < 0.6:
+            return line
+        # mostly the node whose store the line is for
+        own = "rx" if line.startswith("deliver ") else "tx"
+        node = own if self.rng.random() < 0.9 else self.rng.choice(["tx", "rx"])
+        return f"stop {node} {self.rng.randrange(5)} {self.rng.choice(['00', '5a', 'ff', '01', 'a5'])} {line}"
+
+    def plain_line(self, world):
         self.now += self.rng.randrange(40)
         status = self.rng.choice(["enabled", "enabled", "paused", "disabled"])
         kinds = [
@@ -103,9 +115,9 @@ class Drawn:
         return self.rng.choices([kind for _, kind in kinds], [weight for weight, _ in kinds])[0]()
 
 
-def script(seed, count, streams):
-    """So many lines, over so many streams a client."""
-    drawn, world = Drawn(seed, streams), replay_model.World()
+def script(seed, count, streams, crashing):
+    """So many lines, over so many streams a client; crashes among them, where they are asked for."""
+    drawn, world = Drawn(seed, streams, crashing), replay_model.World()
     for _ in range(count):
         line = drawn.line(world)
         word, said = replay_model.parsed(line.encode())

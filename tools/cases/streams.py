@@ -11,8 +11,8 @@ PORTS = {"http": 80, "https": 443}
 PUBLISHED = [PREFIX + "caep/event-type/" + name for name in CAEP] + [PREFIX + "risc/event-type/" + name for name in RISC]
 URL = r"(https?)://([A-Za-z0-9.-]+)(?::([1-9][0-9]{0,4}))?(/[!-~]*)?"
 HYPHENATED = "[0-9A-Fa-f]{8}-[0-9A-Fa-f]{4}-[0-9A-Fa-f]{4}-[0-9A-Fa-f]{4}-[0-9A-Fa-f]{12}"
-# A UUID in one of its four spellings (RFC 9562, section 4); the prefix of the URN is in lower case here.
-UUID = rf"[0-9A-Fa-f]{{32}}|{HYPHENATED}|urn:uuid:{HYPHENATED}|\{{{HYPHENATED}\}}"
+# A UUID in one of its four spellings (RFC 9562, section 4); the prefix of a URN has any case (RFC 8141, section 3.1).
+UUID = rf"[0-9A-Fa-f]{{32}}|{HYPHENATED}|(?i:urn:uuid:){HYPHENATED}|\{{{HYPHENATED}\}}"
 
 
 def need(holds, name):
@@ -83,7 +83,7 @@ def check_publication(body):
         payload = check_event(uri, payload, body["sub_id"])
     except Fault:
         need(False, "events")
-    return {"id": str(uuid.UUID(named)), "payload": payload, "sub_id": body["sub_id"], "uri": uri}
+    return {"id": str(uuid.UUID(named.lower())), "payload": payload, "sub_id": body["sub_id"], "uri": uri}
 
 
 def conf_object(case):

@@ -9,8 +9,8 @@ use sig_outside::Disk;
 use std::alloc::Global;
 use std::fs::{File, Files};
 
-// Opens both files of a store.
-fn open_files<R: Files<File = File>>(
+/// Opens both files of a store.
+pub(crate) fn open_files<R: Files<File = File>>(
     rt: &R,
     a: &str,
     b: &str,
@@ -24,15 +24,22 @@ fn open_files<R: Files<File = File>>(
     Ok((a, b))
 }
 
-// Makes a store where there is none.
-fn make_empty(a: &mut FileDisk, b: &mut FileDisk) -> Result<(), Stopped> {
-    match make(a, b, Kind::Tx, [0; 16]) {
-        Ok(()) | Err(MakeFault::Taken(_)) => Ok(()),
+/// Opens both files of a store, which is made where there is none.
+pub(crate) fn open_store<R: Files<File = File>>(
+    rt: &R,
+    a: &str,
+    b: &str,
+    kind: Kind,
+) -> Result<(FileDisk, FileDisk), Stopped> {
+    let (mut a, mut b) = open_files(rt, a, b)?;
+    match make(&mut a, &mut b, kind, [0; 16]) {
+        Ok(()) | Err(MakeFault::Taken(_)) => Ok((a, b)),
         Err(MakeFault::Store) => Err(Stopped::Store),
     }
 }
 
-fn stopped(refused: LoadRefused<FileDisk>) -> Stopped {
+/// Why a store couldn't be loaded; both files are closed.
+pub(crate) fn load_stopped(refused: LoadRefused<FileDisk>) -> Stopped {
     let LoadRefused { fault, a: _, b: _ } = refused;
     match fault {
         LoadFault::Store => Stopped::Store,
@@ -50,7 +57,7 @@ pub fn count_records<R: Files<File = File>>(
 ) -> Result<u64, Stopped> {
     let (a, b) = open_files(rt, a, b)?;
     match load(alloc, a, b, Kind::Tx) {
-        Err(refused) => Err(stopped(refused)),
+        Err(refused) => Err(load_stopped(refused)),
         Ok(loaded) => {
             let Loaded {
                 journal,
@@ -79,8 +86,7 @@ pub fn append_records<R: Files<File = File>>(
 ) -> Result<u64, Stopped>
     requires { size ≤ 1000000 }
 {
-    let (mut a, mut b) = open_files(rt, a, b)?;
-    make_empty(&mut a, &mut b)?;
+    let (a, b) = open_store(rt, a, b, Kind::Tx)?;
     let Ok(payload) = vec![in alloc; 0x61u8; size as usize] else {
         return Err(Stopped::Memory);
     };
@@ -89,7 +95,7 @@ pub fn append_records<R: Files<File = File>>(
     };
     let loaded = match load(alloc, a, b, Kind::Tx) {
         Ok(loaded) => loaded,
-        Err(refused) => return Err(stopped(refused)),
+        Err(refused) => return Err(load_stopped(refused)),
     };
     let Loaded {
         mut journal,
@@ -129,8 +135,7 @@ pub fn fill_store<R: Files<File = File>>(
 ) -> Result<u64, Stopped>
     requires { size ≤ 1000000 }
 {
-    let (mut a, mut b) = open_files(rt, a, b)?;
-    make_empty(&mut a, &mut b)?;
+    let (mut a, _b) = open_store(rt, a, b, Kind::Tx)?;
     let Ok(bytes) = records_of(alloc, count, size) else {
         return Err(Stopped::Memory);
     };

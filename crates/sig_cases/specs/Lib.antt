@@ -1,2 +1,5 @@
 pub mod Told
-pub mod Status
+pub mod Records
+pub mod Bodies
+pub mod Routes
+pub mod Replies

@@ -1,10 +1,8 @@
 -- What lines are answered, by what the calls answer.
-use Rattle.std.specs.Prelude.{ℕ, List, [], ◌∷◌, ◌++◌, Bool, Option, Some, None, Result, Ok, Err, codes, if◌then◌else◌}
-use Rattle.serde_json.specs.Data.{Data, string}
-use Rattle.serde_json.specs.Written.{compact_text, has_float}
+use Rattle.std.specs.Prelude.{ℕ, List, [], ◌++◌, Bool, Option, Some, None, Result, Ok, Err, codes}
+use Rattle.serde_json.specs.Data.{Data}
 use Rattle.sig_json.specs.declared.members.PayloadFault.{PayloadFault}
 use Rattle.sig_json.specs.declared.members.PayloadFault.TheVariants as payload
-use Rattle.sig_jws.specs.Compact.{base64url}
 use Rattle.sig_jws.specs.declared.compact.Compact.{Compact}
 use Rattle.sig_jws.specs.declared.compact.SplitFault.{SplitFault}
 use Rattle.sig_jws.specs.declared.compact.SplitFault.TheVariants as split
@@ -25,27 +23,13 @@ use Rattle.sig_set.specs.declared.refusal.Refusal.{Refusal}
 use Rattle.sig_set.specs.declared.refusal.Refusal.TheVariants as refusal
 use Rattle.sig_set.specs.declared.reading.ClaimsFault.{ClaimsFault}
 use Rattle.sig_set.specs.declared.reading.ClaimsFault.TheVariants as reading
+use Rattle.sig_lines.specs.Spelled.{said, named, valued, encoded}
+use Rattle.sig_stream.specs.declared.want_fault.WantFault.{WantFault}
+use Rattle.sig_stream.specs.declared.want_fault.WantFault.TheVariants as want
 use Rattle.sig_http.specs.declared.fault.HttpFault.{HttpFault}
 use Rattle.sig_http.specs.declared.fault.HttpFault.TheVariants as http
 use Rattle.sig_cases.specs.declared.subjects.Relation.{Relation}
 use Rattle.sig_cases.specs.declared.subjects.Relation.TheVariants as relation
-
--- a word, a space and what it is about
-abbrev pub said : List ℕ → List ℕ → List ℕ
-said word rest = word ++ codes " " ++ rest
-
--- a name as a JSON string
-abbrev pub named : List ℕ → List ℕ → List ℕ
-named word name = said word (compact_text (string name))
-
--- a value's canonical text; `fraction` where one stands in it
-abbrev pub valued : List ℕ → Data → List ℕ
-valued word d = if has_float d then codes "fraction" else said word (compact_text d)
-
--- the word that spells bytes
-abbrev pub encoded : List ℕ → List ℕ
-encoded [] = codes "-"
-encoded (b ∷ bytes) = base64url (b ∷ bytes)
 
 -- of the value that a text spells
 abbrev pub json_told : Option Data → List ℕ
@@ -109,6 +93,13 @@ abbrev pub claims_told : Result Claims ClaimsFault → List ℕ
 claims_told (Ok c) = said (codes "ok") (payload_text_of c)
 claims_told (Err (reading.Bad spot)) = said (codes "bad") (spot_text spot)
 claims_told (Err reading.Memory) = []
+
+-- of a body that wants nothing that may be wanted (OpenID Shared Signals Framework 1.0, section 8.1.1)
+abbrev pub want_refused : WantFault → List ℕ
+want_refused (want.Member name) = named (codes "member") name
+want_refused want.Method = codes "method"
+want_refused want.Endpoint = codes "endpoint"
+want_refused want.Memory = []
 
 -- of bytes that are no message (RFC 9112)
 abbrev pub message_refused : HttpFault → List ℕ

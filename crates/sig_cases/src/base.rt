@@ -5,9 +5,9 @@ ghost use Rattle.sig_json.specs.Json.{json_of};
 ghost use Rattle.sig_jws.specs.Compact.{split_of};
 ghost use Rattle.sig_cases.specs.Told as spec;
 
-use crate::spelling::{bare, cut_at_space, decoded, encoded, said, spelled, valued, yes_or_no};
 use sig_json::{Bytes, Memory};
 use sig_jws::{Compact, SplitFault, hmac, key_of};
+use sig_lines::{bare, cut_at_space, decoded, encoded, said, spelled, valued, yes_or_no};
 use std::alloc::Global;
 use std::str;
 

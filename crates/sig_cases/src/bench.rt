@@ -1,14 +1,13 @@
-//! What earlier lines leave for later ones, and the answer to each line.
+//! What earlier lines leave for later ones, and the answers to lines.
 
-use crate::spelling::{bare, cut_at_space};
 use crate::subjects::Relation;
 use crate::word::Word;
-use crate::{base, messages, subjects, table, tokens};
+use crate::{base, bodies, messages, records, replies, routes, streams, subjects, table, tokens};
 use sig_json::{Bytes, Memory};
+use sig_lines::{Answering, bare};
 use sig_sessions::Table;
 use sig_set::Trust;
 use std::alloc::Global;
-use std::str;
 
 /// Whom tokens are trusted of, and the session table.
 #[derive(Drop)]
@@ -26,34 +25,6 @@ impl Bench {
             trust: tokens::nobody(alloc)?,
             table: Table::new(alloc),
         })
-    }
-
-    /// The answer to a line, none where it is passed over.
-    pub fn answer(&mut self, line: &[u8]) -> Result<Option<Bytes>, Memory> {
-        if line.is_empty() || line.starts_with(b"#") {
-            return Ok(None);
-        }
-        match self.told(line)? {
-            Some(answer) => Ok(Some(answer)),
-            None => self.no_case(),
-        }
-    }
-
-    /// The answer to a line that is no case.
-    pub fn no_case(&self) -> Result<Option<Bytes>, Memory> {
-        Ok(Some(bare(self.alloc, "bad-case")?))
-    }
-
-    // None where the line is no case.
-    fn told(&mut self, line: &[u8]) -> Result<Option<Bytes>, Memory> {
-        let (name, rest) = cut_at_space(line).unwrap_or((line, b""));
-        let Ok(name) = str::from_utf8(name) else {
-            return Ok(None);
-        };
-        match Word::named(name) {
-            Some(word) => self.asked(word, rest),
-            None => Ok(None),
-        }
     }
 
     // None where the rest isn't of the word's form.
@@ -76,8 +47,20 @@ impl Bench {
             Word::Row => table::row(alloc, &self.table, rest),
             Word::Verdict => table::verdict(alloc, &self.table, rest),
             Word::Clear => self.cleared(rest),
+            Word::Want => streams::want(alloc, rest),
+            Word::Publish => streams::publish(alloc, rest),
+            Word::Conf => streams::conf(alloc, rest),
+            Word::Delivers => streams::delivers(alloc, rest),
+            Word::Fits => streams::fitting(alloc, rest),
             Word::Request => messages::request(alloc, rest),
             Word::Response => messages::response(alloc, rest),
+            Word::Record => records::record(alloc, rest),
+            Word::TokenRecord => records::token_record(alloc, rest),
+            Word::Ask => Ok(Some(bodies::ask(alloc, rest)?)),
+            Word::Sets => Ok(Some(bodies::sets(alloc, rest)?)),
+            Word::Outcome => bodies::outcome(alloc, rest),
+            Word::Route => routes::route(alloc, rest),
+            Word::Reply => replies::reply(alloc, rest),
         }
     }
 
@@ -99,5 +82,14 @@ impl Bench {
         let answer = bare(self.alloc, "ok")?;
         self.table = Table::new(self.alloc);
         Ok(Some(answer))
+    }
+}
+
+impl Answering for Bench {
+    fn told(&mut self, word: &str, rest: &[u8]) -> Result<Option<Bytes>, Memory> {
+        match Word::named(word) {
+            Some(word) => self.asked(word, rest),
+            None => Ok(None),
+        }
     }
 }

@@ -3,40 +3,62 @@
 ghost use Rattle.std.specs.Prelude.{◌≡◌, IfOk};
 ghost use Rattle.sig_cases.specs.Told as spec;
 
-use crate::spelling::{bare, cut_at_space, decoded, encoded_text, number_in};
 use serde_json::json;
 use sig_http::{Got, HttpFault, Kept, Request, Response, read_request, read_response};
-use sig_json::{Bytes, Items, Memory, Text, Value};
+use sig_json::{Bytes, Items, Memory, Value};
+use sig_lines::{bare, cut_at_space, decoded, encoded_text, number_in, text_or_null};
 use sig_outside::MemSource;
 use std::alloc::Global;
 
 /// What is read of the bytes as a request; none where the rest isn't a size and bytes.
 pub fn request(alloc: Global, rest: &[u8]) -> Result<Option<Bytes>, Memory> {
-    let Some(mut source) = source_in(alloc, rest)? else {
-        return Ok(None);
-    };
+    match source_in(alloc, rest)? {
+        Some(mut source) => Ok(Some(request_from(alloc, &mut source)?)),
+        None => Ok(None),
+    }
+}
+
+fn request_from(alloc: Global, source: &mut MemSource) -> Result<Bytes, Memory> {
     let mut kept = Kept::new(alloc);
-    let answer = match read_request(alloc, &mut source, &mut kept) {
-        Ok(Got::Request(request)) => {
-            got(alloc, request_object(alloc, &request)?, &kept, &source)?
-        }
-        Ok(Got::End) => bare(alloc, "end")?,
-        Err(fault) => refused(alloc, fault)?,
-    };
-    Ok(Some(answer))
+    match read_request(alloc, source, &mut kept) {
+        Ok(Got::Request(request)) => got_request(alloc, &request, &kept, source),
+        Ok(Got::End) => bare(alloc, "end"),
+        Err(fault) => refused(alloc, fault),
+    }
+}
+
+fn got_request(
+    alloc: Global,
+    request: &Request,
+    kept: &Kept,
+    source: &MemSource,
+) -> Result<Bytes, Memory> {
+    got(alloc, request_object(alloc, request)?, kept, source)
 }
 
 /// What is read of the bytes as a response; none where the rest isn't a size and bytes.
 pub fn response(alloc: Global, rest: &[u8]) -> Result<Option<Bytes>, Memory> {
-    let Some(mut source) = source_in(alloc, rest)? else {
-        return Ok(None);
-    };
+    match source_in(alloc, rest)? {
+        Some(mut source) => Ok(Some(response_from(alloc, &mut source)?)),
+        None => Ok(None),
+    }
+}
+
+fn response_from(alloc: Global, source: &mut MemSource) -> Result<Bytes, Memory> {
     let mut kept = Kept::new(alloc);
-    let answer = match read_response(alloc, &mut source, &mut kept) {
-        Ok(response) => got(alloc, response_object(alloc, &response)?, &kept, &source)?,
-        Err(fault) => refused(alloc, fault)?,
-    };
-    Ok(Some(answer))
+    match read_response(alloc, source, &mut kept) {
+        Ok(response) => got_response(alloc, &response, &kept, source),
+        Err(fault) => refused(alloc, fault),
+    }
+}
+
+fn got_response(
+    alloc: Global,
+    response: &Response,
+    kept: &Kept,
+    source: &MemSource,
+) -> Result<Bytes, Memory> {
+    got(alloc, response_object(alloc, response)?, kept, source)
 }
 
 // The source that two words name: how many bytes it gives a call at most, and its bytes.
@@ -101,11 +123,4 @@ fn response_object(alloc: Global, response: &Response) -> Result<Value, Memory> 
         "status": response.status
     })?;
     Ok(value)
-}
-
-fn text_or_null(alloc: Global, text: &Option<Text>) -> Result<Value, Memory> {
-    match text {
-        Some(text) => Ok(Value::String(String::from_str(alloc, text.as_str())?)),
-        None => Ok(Value::Null),
-    }
 }

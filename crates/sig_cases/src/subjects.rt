@@ -1,15 +1,15 @@
 //! Lines on subjects (RFC 9493) and on the payloads of events.
 
-ghost use Rattle.std.specs.Prelude.{◌≡◌, IfOk};
+ghost use Rattle.std.specs.Prelude.{◌≡◌, IfOk, Ok};
 ghost use Rattle.serde_json.specs.View.{view};
 ghost use Rattle.sig_json.specs.Json.{json_of};
 ghost use Rattle.sig_subject.specs.Reading.{subject_of};
 ghost use Rattle.sig_event.specs.Events.{event_of};
 ghost use Rattle.sig_cases.specs.Told as spec;
 
-use crate::spelling::{bare, named, spelled, valued, yes_or_no};
-use sig_event::{EventFault, PayloadFault};
+use sig_event::{Event, EventFault, PayloadFault};
 use sig_json::{Bytes, Memory, Value, text_of};
+use sig_lines::{bare, named, spelled, subject_in, valued, yes_or_no};
 use sig_subject::{Subject, SubjectFault, covers, identical, matches};
 use std::alloc::Global;
 
@@ -50,7 +50,7 @@ fn read_subject(alloc: Global, value: &Value) -> Result<Bytes, Memory>
     ensures { IfOk result (λ t. t ≡ spec.read_subject (subject_of (view value.now))) }
 {
     match sig_subject::from_json(alloc, value) {
-        Ok(subject) => valued(alloc, "ok", &sig_subject::to_json(alloc, &subject)?),
+        Ok(subject) => subject_again(alloc, &subject),
         Err(SubjectFault::Format) => bare(alloc, "format"),
         Err(SubjectFault::Member(name)) => named(alloc, "member", &name),
         Err(SubjectFault::Empty) => bare(alloc, "empty"),
@@ -58,6 +58,12 @@ fn read_subject(alloc: Global, value: &Value) -> Result<Bytes, Memory>
         Err(SubjectFault::Fraction) => bare(alloc, "fraction"),
         Err(SubjectFault::Memory) => Err(Memory),
     }
+}
+
+fn subject_again(alloc: Global, subject: &Subject) -> Result<Bytes, Memory>
+    ensures { IfOk result (λ t. t ≡ spec.read_subject (Ok subject.now)) }
+{
+    valued(alloc, "ok", &sig_subject::to_json(alloc, subject)?)
 }
 
 /// Whether the relation holds; none where the rest is no list of two subjects.
@@ -75,15 +81,6 @@ pub fn related(alloc: Global, relation: Relation, rest: &[u8]) -> Result<Option<
         return Ok(None);
     };
     Ok(Some(yes_or_no(alloc, relation.holds(&one, &two))?))
-}
-
-/// The subject that the value is, none where it is none.
-pub fn subject_in(alloc: Global, value: &Value) -> Result<Option<Subject>, Memory> {
-    match sig_subject::from_json(alloc, value) {
-        Ok(subject) => Ok(Some(subject)),
-        Err(SubjectFault::Memory) => Err(Memory),
-        Err(_) => Ok(None),
-    }
 }
 
 /// `ok` and the payload of the event written again, or the check that fails; none where the rest is no object with a
@@ -109,12 +106,18 @@ fn read_event(alloc: Global, uri: &str, payload: &Value, about: &Subject) -> Res
     ensures { IfOk result (λ t. t ≡ spec.event_told (event_of uri.now (view payload.now) about.now)) }
 {
     match sig_event::from_json(alloc, uri, payload, about) {
-        Ok(event) => valued(alloc, "ok", &sig_event::to_json(alloc, &event)?),
+        Ok(event) => event_again(alloc, &event),
         Err(EventFault::NotObject) => bare(alloc, "not-object"),
         Err(EventFault::Payload(fault)) => refused_payload(alloc, &fault),
         Err(EventFault::Subject) => bare(alloc, "subject"),
         Err(EventFault::Memory) => Err(Memory),
     }
+}
+
+fn event_again(alloc: Global, event: &Event) -> Result<Bytes, Memory>
+    ensures { IfOk result (λ t. t ≡ spec.event_told (Ok event.now)) }
+{
+    valued(alloc, "ok", &sig_event::to_json(alloc, event)?)
 }
 
 fn refused_payload(alloc: Global, fault: &PayloadFault) -> Result<Bytes, Memory>

@@ -1,10 +1,9 @@
 //! Lines on the session table.
 
-use crate::spelling::{bare, number_in, said, spelled, valued};
-use crate::subjects::subject_in;
 use serde_json::{Map, json};
 use sig_event::{Claims, Event, EventFault};
 use sig_json::{Bytes, Items, Listed, Memory, Text, Value};
+use sig_lines::{bare, number_in, said, spelled, subject_in, valued};
 use sig_receiver::row_line;
 use sig_sessions::{Table, Verdict};
 use sig_set::Spot;

@@ -1,14 +1,14 @@
 //! Lines on whom is trusted, and on tokens (RFC 8417).
 
-ghost use Rattle.std.specs.Prelude.{◌≡◌, IfOk, option_copied};
+ghost use Rattle.std.specs.Prelude.{◌≡◌, IfOk, Ok, option_copied};
 ghost use Rattle.sig_set.specs.Judgement.{judged, result_of};
 ghost use Rattle.sig_set.specs.Reading.{claims_read};
 ghost use Rattle.sig_cases.specs.Told as spec;
 
-use crate::spelling::{said, spelled};
-use sig_json::{Bytes, Items, Memory, Text, Value, list_of, present, text_of};
+use sig_json::{Bytes, Items, Memory, Text, Value, list_of, text_of};
 use sig_jws::{Key, key_of};
-use sig_set::{ClaimsFault, Issuer, Refusal, Trust, claims_of, payload_text};
+use sig_lines::{copy_member, is_text_or_missing, said, spelled};
+use sig_set::{Claims, ClaimsFault, Issuer, Refusal, Trust, claims_of, payload_text};
 use std::alloc::Global;
 
 /// Nobody, for the empty audience.
@@ -88,18 +88,6 @@ fn key(alloc: Global, value: &Value) -> Result<Option<Key>, Memory> {
     }))
 }
 
-fn is_text_or_missing(value: &Value, name: &str) -> bool {
-    !present(value, name) || text_of(value, name).is_some()
-}
-
-// The member's text, none where it has none.
-fn copy_member(alloc: Global, value: &Value, name: &str) -> Result<Option<Text>, Memory> {
-    match text_of(value, name) {
-        Some(text) => Ok(Some(Text::of(alloc, text)?)),
-        None => Ok(None),
-    }
-}
-
 /// `valid` and the payload of the claims, or the code and the spot of the first check that fails; none where the rest is
 /// no object with a text `token`, whose `named` and `principal` are texts where they are there.
 pub fn judge(alloc: Global, trust: &Trust, rest: &[u8]) -> Result<Option<Bytes>, Memory> {
@@ -134,7 +122,7 @@ fn judged(
         (result_of (judged trust.now (option_copied principal.entry) (option_copied named.entry) token.now))) }
 {
     match sig_set::judge(alloc, trust, principal, named, token) {
-        Ok(claims) => said(alloc, "valid", payload_text(alloc, &claims)?.as_slice()),
+        Ok(claims) => judged_valid(alloc, &claims),
         Err(Refusal::Coded { code, spot }) => {
             said(alloc, code.as_str(), spot.as_str().as_bytes())
         }
@@ -142,12 +130,24 @@ fn judged(
     }
 }
 
+fn judged_valid(alloc: Global, claims: &Claims) -> Result<Bytes, Memory>
+    ensures { IfOk result (λ t. t ≡ spec.judgement_told (Ok claims.now)) }
+{
+    said(alloc, "valid", payload_text(alloc, claims)?.as_slice())
+}
+
+fn claims_again(alloc: Global, claims: &Claims) -> Result<Bytes, Memory>
+    ensures { IfOk result (λ t. t ≡ spec.claims_told (Ok claims.now)) }
+{
+    said(alloc, "ok", payload_text(alloc, claims)?.as_slice())
+}
+
 /// `ok` and the payload of the claims, or the spot of the first check that fails.
 pub fn claims(alloc: Global, rest: &[u8]) -> Result<Bytes, Memory>
     ensures { IfOk result (λ t. t ≡ spec.claims_told (claims_read rest.now)) }
 {
     match claims_of(alloc, rest) {
-        Ok(claims) => said(alloc, "ok", payload_text(alloc, &claims)?.as_slice()),
+        Ok(claims) => claims_again(alloc, &claims),
         Err(ClaimsFault::Bad(spot)) => said(alloc, "bad", spot.as_str().as_bytes()),
         Err(ClaimsFault::Memory) => Err(Memory),
     }

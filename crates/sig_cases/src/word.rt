@@ -35,10 +35,34 @@ pub enum Word {
     Verdict,
     /// An empty session table.
     Clear,
+    /// What a body wants of a stream.
+    Want,
+    /// A publication, read of its body.
+    Publish,
+    /// A stream's configuration, as it is told.
+    Conf,
+    /// Whether a stream delivers events of a URI.
+    Delivers,
+    /// Whether a subject is one of a stream's.
+    Fits,
     /// What is read of bytes as an HTTP request.
     Request,
     /// What is read of bytes as an HTTP response.
     Response,
+    /// A fact's record, encoded again.
+    Record,
+    /// A token's record, encoded again.
+    TokenRecord,
+    /// What the body of a poll asks.
+    Ask,
+    /// What the body of a poll's response hands out.
+    Sets,
+    /// What the response to a push settles.
+    Outcome,
+    /// What a request asks of a transmitter.
+    Route,
+    /// The response to an answer of a transmitter.
+    Reply,
 }
 
 impl Word {
@@ -61,8 +85,20 @@ impl Word {
             "row" => Some(Word::Row),
             "verdict" => Some(Word::Verdict),
             "clear" => Some(Word::Clear),
+            "want" => Some(Word::Want),
+            "publish" => Some(Word::Publish),
+            "conf" => Some(Word::Conf),
+            "delivers" => Some(Word::Delivers),
+            "fits" => Some(Word::Fits),
             "request" => Some(Word::Request),
             "response" => Some(Word::Response),
+            "record" => Some(Word::Record),
+            "token-record" => Some(Word::TokenRecord),
+            "ask" => Some(Word::Ask),
+            "sets" => Some(Word::Sets),
+            "outcome" => Some(Word::Outcome),
+            "route" => Some(Word::Route),
+            "reply" => Some(Word::Reply),
             _ => None,
         }
     }

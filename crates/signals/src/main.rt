@@ -1,7 +1,8 @@
-//! The program `signals`: `sig_program` over the words of the command line, standard input and standard output.
+//! The program `signals`: `sig_service` over the words of the command line, standard input and output, and the
+//! system's files.
 #![tactic(auto)]
 
-use sig_program::enter;
+use sig_service::enter;
 use std::process::ExitCode;
 
 fn main(rt: HostRuntime) -> ExitCode {

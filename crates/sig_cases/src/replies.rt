@@ -1,0 +1,224 @@
+//! Lines on how a transmitter tells its answers: the response to each (OpenID Shared Signals Framework 1.0, section 8.1).
+
+ghost use Rattle.std.specs.Prelude.{IfOk, IfSome};
+ghost use Rattle.sig_cases.specs.Replies.{IsManaged};
+
+use crate::routes::rules;
+use crate::streams::conf_in;
+use sig_event::Status;
+use sig_http::Response;
+use sig_json::{Bytes, Items, Memory, Text, Value, list_of, present, text_of, value_named};
+use sig_lines::{said, spelled};
+use sig_manage::response_of;
+use sig_terms::{Answer, Issued, StreamConf};
+use std::alloc::Global;
+
+const STORE_ID: [u8; 16] = [
+    0x6b, 0xa7, 0xb8, 0x10, 0x9d, 0xad, 0x11, 0xd1, 0x80, 0xb4, 0x00, 0xc0, 0x4f, 0xd4, 0x30, 0xc8,
+];
+
+/// The status and the body of the response to an answer, `-` for the empty body; none where the rest is no object whose
+/// text `answer` names one, with the parts that it has.
+pub fn reply(alloc: Global, rest: &[u8]) -> Result<Option<Bytes>, Memory> {
+    let Some(case) = spelled(alloc, rest)? else {
+        return Ok(None);
+    };
+    match answer_in(alloc, &case)? {
+        Some(answer) => Ok(Some(replied(alloc, answer)?)),
+        None => Ok(None),
+    }
+}
+
+// The answer is dropped by itself, so that no other function has a part of its many kinds.
+fn replied(alloc: Global, answer: Answer) -> Result<Bytes, Memory>
+    requires { IsManaged answer }
+{
+    let told = told(alloc, &answer);
+    drop(answer);
+    told
+}
+
+fn told(alloc: Global, answer: &Answer) -> Result<Bytes, Memory>
+    requires { IsManaged answer.now }
+{
+    let rules = rules(alloc, true)?;
+    let response = response_of(alloc, answer, &rules)?;
+    written(alloc, &response)
+}
+
+fn written(alloc: Global, response: &Response) -> Result<Bytes, Memory> {
+    let code = response.status;
+    let status = format!(in alloc; "{code}")?;
+    if response.body.as_slice().is_empty() {
+        return said(alloc, status.as_str(), b"-");
+    }
+    said(alloc, status.as_str(), response.body.as_slice())
+}
+
+fn answer_in(alloc: Global, case: &Value) -> Result<Option<Answer>, Memory>
+    ensures { IfOk result (λ answer. IfSome answer IsManaged) }
+{
+    match text_of(case, "answer") {
+        Some("made") => made(alloc, case),
+        Some("conf") => standing(alloc, case),
+        Some("confs") => all_standing(alloc, case),
+        Some("state") => state(alloc, case),
+        Some("published") => published(alloc, case),
+        Some(name) => named(alloc, name),
+        None => Ok(None),
+    }
+}
+
+fn made(alloc: Global, case: &Value) -> Result<Option<Answer>, Memory>
+    ensures { IfOk result (λ answer. IfSome answer IsManaged) }
+{
+    match conf_at(alloc, case)? {
+        Some(conf) => Ok(Some(Answer::Made { conf })),
+        None => Ok(None),
+    }
+}
+
+fn standing(alloc: Global, case: &Value) -> Result<Option<Answer>, Memory>
+    ensures { IfOk result (λ answer. IfSome answer IsManaged) }
+{
+    match conf_at(alloc, case)? {
+        Some(conf) => Ok(Some(Answer::Conf { conf })),
+        None => Ok(None),
+    }
+}
+
+fn all_standing(alloc: Global, case: &Value) -> Result<Option<Answer>, Memory>
+    ensures { IfOk result (λ answer. IfSome answer IsManaged) }
+{
+    match confs_at(alloc, case)? {
+        Some(confs) => Ok(Some(Answer::Confs { confs })),
+        None => Ok(None),
+    }
+}
+
+fn conf_at(alloc: Global, case: &Value) -> Result<Option<StreamConf>, Memory> {
+    match case.get("conf") {
+        Some(conf) => conf_in(alloc, conf),
+        None => Ok(None),
+    }
+}
+
+fn confs_at(alloc: Global, case: &Value) -> Result<Option<Items<StreamConf>>, Memory> {
+    let Some(list) = list_of(case, "confs") else {
+        return Ok(None);
+    };
+    let mut confs = Vec::new(alloc);
+    for item in list.as_slice() {
+        match conf_in(alloc, item)? {
+            Some(conf) => confs.push(conf)?,
+            None => return Ok(None),
+        }
+    }
+    Ok(Some(Items::of(confs)))
+}
+
+fn state(alloc: Global, case: &Value) -> Result<Option<Answer>, Memory>
+    ensures { IfOk result (λ answer. IfSome answer IsManaged) }
+{
+    let (Some(stream), Some(status)) = (text_of(case, "stream"), status_in(case)) else {
+        return Ok(None);
+    };
+    let reason = match text_of(case, "reason") {
+        Some(reason) => Some(Text::of(alloc, reason)?),
+        None if present(case, "reason") => return Ok(None),
+        None => None,
+    };
+    Ok(Some(Answer::State {
+        stream: Text::of(alloc, stream)?,
+        status,
+        reason,
+        token: None,
+    }))
+}
+
+fn status_in(case: &Value) -> Option<Status> {
+    value_named::<Status>(text_of(case, "status")?)
+}
+
+fn published(alloc: Global, case: &Value) -> Result<Option<Answer>, Memory>
+    ensures { IfOk result (λ answer. IfSome answer IsManaged) }
+{
+    match tokens_at(alloc, case)? {
+        Some(tokens) => Ok(Some(Answer::Published {
+            store_id: STORE_ID,
+            tokens,
+        })),
+        None => Ok(None),
+    }
+}
+
+fn tokens_at(alloc: Global, case: &Value) -> Result<Option<Items<Issued>>, Memory> {
+    let Some(list) = list_of(case, "tokens") else {
+        return Ok(None);
+    };
+    let mut tokens = Vec::new(alloc);
+    for item in list.as_slice() {
+        match token_in(alloc, item)? {
+            Some(token) => tokens.push(token)?,
+            None => return Ok(None),
+        }
+    }
+    Ok(Some(Items::of(tokens)))
+}
+
+// A list of a stream's name and a number.
+fn token_in(alloc: Global, item: &Value) -> Result<Option<Issued>, Memory> {
+    let Some([stream, number]) = item.as_array().map(|list| list.as_slice()) else {
+        return Ok(None);
+    };
+    let (Some(stream), Some(number)) = (stream.as_str(), number.as_u64()) else {
+        return Ok(None);
+    };
+    Ok(Some(Issued {
+        stream: Text::of(alloc, stream)?,
+        number,
+    }))
+}
+
+// The answers of whose parts a response tells nothing.
+fn named(alloc: Global, name: &str) -> Result<Option<Answer>, Memory>
+    ensures { IfOk result (λ answer. IfSome answer IsManaged) }
+{
+    match name {
+        "asked" => Ok(Some(asked(alloc)?)),
+        "delivering" => Ok(Some(delivering(alloc)?)),
+        name => Ok(plain(name)),
+    }
+}
+
+fn asked(alloc: Global) -> Result<Answer, Memory>
+    ensures { IfOk result IsManaged }
+{
+    let stream = Text::of(alloc, "acme-1")?;
+    Ok(Answer::Asked { stream, number: 1 })
+}
+
+fn delivering(alloc: Global) -> Result<Answer, Memory>
+    ensures { IfOk result IsManaged }
+{
+    let stream = Text::of(alloc, "acme-1")?;
+    Ok(Answer::Delivering { stream })
+}
+
+fn plain(name: &str) -> Option<Answer>
+    ensures { IfSome result IsManaged }
+{
+    match name {
+        "meta" => Some(Answer::Meta),
+        "gone" => Some(Answer::Gone),
+        "added" => Some(Answer::Added),
+        "removed" => Some(Answer::Removed),
+        "not-found" => Some(Answer::NotFound),
+        "too-many" => Some(Answer::TooMany),
+        "conflict" => Some(Answer::Conflict),
+        "disabled" => Some(Answer::Disabled),
+        "early" => Some(Answer::Early { until: 160 }),
+        "long" => Some(Answer::Long { size: 6001 }),
+        _ => None,
+    }
+}
