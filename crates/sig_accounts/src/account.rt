@@ -21,7 +21,7 @@ use std::marker::Model;
 
 /// A stream that stands, with the tokens that it owes. Contracts see it as its stream, what it owes in small, and the numbers
 /// of further tokens and of further subjects for which there is room.
-#[derive(Debug, Drop)]
+#[derive(Drop)]
 pub struct Account {
     number: u64,
     conf: StreamConf,

@@ -5,7 +5,7 @@ use std::alloc::Global;
 use std::marker::Model;
 
 /// How many streams a client ever made.
-#[derive(Debug, Drop)]
+#[derive(Drop)]
 pub struct Counted {
     client: Text,
     count: u64,

@@ -8,7 +8,7 @@ use std::marker::Model;
 
 /// A token that a publication made, as it is kept for good: its stream's name, which all tokens of the stream share, and its
 /// number. Contracts see it as the token.
-#[derive(Debug, Drop)]
+#[derive(Drop)]
 pub struct KeptToken {
     name: SharedName,
     number: u64,

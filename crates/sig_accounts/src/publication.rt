@@ -10,7 +10,7 @@ use std::alloc::Global;
 use std::marker::Model;
 
 /// A publication, with the tokens that it made, which hold no text each.
-#[derive(Debug, Drop)]
+#[derive(Drop)]
 pub struct Publication {
     id: Text,
     news: News,

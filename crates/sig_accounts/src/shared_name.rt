@@ -7,7 +7,7 @@ use std::sync::Arc;
 
 /// A name that several values hold together: its text stands once in memory, for as long as one of them does. Contracts see
 /// it as the name.
-#[derive(Debug, Drop)]
+#[derive(Drop)]
 pub struct SharedName {
     text: Arc<Text, Global>,
 }

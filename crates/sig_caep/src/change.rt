@@ -3,7 +3,7 @@ ghost use Rattle.sig_caep.specs.Lists.{changes, change_text};
 use sig_json::{Listed, Same};
 
 /// What was done to a credential (CAEP 1.0, section 3.3).
-#[derive(Clone, Copy, Debug, PartialEq, Eq, Hash)]
+#[derive(Clone, Copy, PartialEq, Eq)]
 pub enum Change {
     /// The credential was made.
     Create,

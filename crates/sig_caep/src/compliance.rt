@@ -3,7 +3,7 @@ ghost use Rattle.sig_caep.specs.Lists.{compliances, compliance_text};
 use sig_json::{Listed, Same};
 
 /// Whether a device is compliant (CAEP 1.0, section 3.5).
-#[derive(Clone, Copy, Debug, PartialEq, Eq, Hash)]
+#[derive(Clone, Copy, PartialEq, Eq)]
 pub enum Compliance {
     /// The device is compliant.
     Compliant,

@@ -3,7 +3,7 @@ ghost use Rattle.sig_caep.specs.Lists.{directions, direction_text};
 use sig_json::{Listed, Same};
 
 /// How an assurance level changed (CAEP 1.0, section 3.4).
-#[derive(Clone, Copy, Debug, PartialEq, Eq, Hash)]
+#[derive(Clone, Copy, PartialEq, Eq)]
 pub enum Direction {
     /// The level rose.
     Increase,

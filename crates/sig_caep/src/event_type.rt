@@ -3,7 +3,7 @@ ghost use Rattle.sig_caep.specs.Table.{caep_types, type_text};
 use sig_json::Listed;
 
 /// A type of event of CAEP (CAEP 1.0, section 3); its text is the last part of its URI.
-#[derive(Clone, Copy, Debug, PartialEq, Eq, Hash)]
+#[derive(Clone, Copy, PartialEq, Eq)]
 pub enum CaepType {
     /// Section 3.1.
     SessionRevoked,

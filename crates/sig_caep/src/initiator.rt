@@ -3,7 +3,7 @@ ghost use Rattle.sig_caep.specs.Lists.{initiators, initiator_text};
 use sig_json::{Listed, Same};
 
 /// Who brought the event about (CAEP 1.0, section 2).
-#[derive(Clone, Copy, Debug, PartialEq, Eq, Hash)]
+#[derive(Clone, Copy, PartialEq, Eq)]
 pub enum Initiator {
     /// An administrator.
     Admin,

@@ -14,7 +14,7 @@ use sig_subject::{Subject, SubjectFault, covers, identical, matches};
 use std::alloc::Global;
 
 /// A relation between two subjects.
-#[derive(Clone, Copy, Debug, PartialEq, Eq)]
+#[derive(Clone, Copy, PartialEq, Eq)]
 pub enum Relation {
     /// They are identical.
     Identical,

@@ -1,7 +1,7 @@
 //! The words that a line may begin with.
 
 /// What a line asks for.
-#[derive(Clone, Copy, Debug, PartialEq, Eq)]
+#[derive(Clone, Copy, PartialEq, Eq)]
 pub enum Word {
     /// The canonical text of a value.
     Json,

@@ -3,7 +3,7 @@ ghost use Rattle.std.specs.Prelude.{◌≡◌};
 use crate::{Stop, TellFault};
 
 /// How a command over the lines of its input ends. Each ending comes by its cause.
-#[derive(Clone, Copy, Debug, PartialEq, Eq, Hash)]
+#[derive(Clone, Copy, PartialEq, Eq)]
 pub enum LinesEnd {
     /// The input was read to its end, and everything is written.
     Done,

@@ -4,7 +4,7 @@ use sig_json::MemoryRefusal;
 use thiserror::Error;
 
 /// Why a line ends a command.
-#[derive(Clone, Copy, Debug, PartialEq, Eq, Hash, Error)]
+#[derive(Clone, Copy, Debug, PartialEq, Eq, Error)]
 pub enum Stop {
     /// It is refused: the line of this number, from 1.
     #[error("line {0} is refused")]
@@ -15,7 +15,7 @@ pub enum Stop {
 }
 
 /// Why a line wasn't taken.
-#[derive(Clone, Copy, Debug, PartialEq, Eq, Hash, Error)]
+#[derive(Clone, Copy, Debug, PartialEq, Eq, Error)]
 pub enum TellFault {
     /// It ends the command.
     #[error("{0}")]

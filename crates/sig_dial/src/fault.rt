@@ -2,7 +2,7 @@ use sig_json::MemoryRefusal;
 use thiserror::Error;
 
 /// Why a request has no response.
-#[derive(Clone, Copy, Debug, PartialEq, Eq, Hash, Error)]
+#[derive(Clone, Copy, Debug, PartialEq, Eq, Error)]
 pub enum AskFault {
     /// The side failed to dial.
     #[error("the dial failed")]

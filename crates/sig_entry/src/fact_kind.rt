@@ -4,7 +4,7 @@ ghost use Rattle.sig_entry.specs.Facts as facts;
 use sig_terms::Fact;
 
 /// The kind of a fact, which its bytes begin with.
-#[derive(Clone, Copy, Debug, PartialEq, Eq, Hash)]
+#[derive(Clone, Copy, PartialEq, Eq)]
 pub enum FactKind {
     /// `Fact::Created`.
     Created,

@@ -7,7 +7,7 @@ use sig_risc::RiscType;
 use sig_subject::{Plain, Simple, Subject};
 
 /// A type of event with a payload that is read; its text is its URI.
-#[derive(Clone, Copy, Debug, PartialEq, Eq, Hash)]
+#[derive(Clone, Copy, PartialEq, Eq)]
 pub enum EventType {
     /// A type of CAEP (CAEP 1.0, section 3).
     Caep(CaepType),

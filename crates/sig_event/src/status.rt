@@ -3,7 +3,7 @@ ghost use Rattle.sig_event.specs.Status.{status_text, statuses};
 use sig_json::{Listed, Same};
 
 /// The status of a stream (OpenID Shared Signals Framework 1.0, section 8.1.2).
-#[derive(Clone, Copy, Debug, PartialEq, Eq, Hash)]
+#[derive(Clone, Copy, PartialEq, Eq)]
 pub enum Status {
     /// Events are sent.
     Enabled,

@@ -4,7 +4,7 @@ use sig_json::MemoryRefusal;
 use thiserror::Error;
 
 /// Why a part isn't read.
-#[derive(Clone, Copy, Debug, PartialEq, Eq, Hash, Error)]
+#[derive(Clone, Copy, Debug, PartialEq, Eq, Error)]
 pub enum PartFault {
     /// The part is cut, or breaks its rule.
     #[error("a part that can't be read")]
@@ -25,7 +25,7 @@ impl<R: MemoryRefusal> From<R> for PartFault {
 }
 
 /// Why bytes are no spelling.
-#[derive(Clone, Copy, Debug, PartialEq, Eq, Hash, Error)]
+#[derive(Clone, Copy, Debug, PartialEq, Eq, Error)]
 pub enum DecodeFault {
     /// The offset of the first part that is cut or breaks its rule; where there is none, that of the first byte after the
     /// last part.

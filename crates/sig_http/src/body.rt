@@ -13,7 +13,7 @@ use sig_outside::Source;
 use std::alloc::Global;
 
 /// A body that was read, and the bytes after it that were taken with it.
-#[derive(Debug, Drop)]
+#[derive(Drop)]
 pub struct Body {
     pub content: Vec<u8>,
     pub rest: Vec<u8>,

@@ -10,7 +10,7 @@ use sig_json::Memory;
 
 /// Where a chunk line stands: in the digits of its size, in the spaces and tabs after them, in its extensions, after the CR
 /// that is to end it, or past a byte that it may not have.
-#[derive(Clone, Copy, Debug, PartialEq, Eq, Hash)]
+#[derive(Clone, Copy, PartialEq, Eq)]
 pub enum Part {
     Digits,
     Pad,
@@ -20,7 +20,7 @@ pub enum Part {
 }
 
 /// A chunk line so far: its bytes, the digits of its size and the number that they are.
-#[derive(Clone, Copy, Debug, PartialEq, Eq, Hash)]
+#[derive(Clone, Copy, PartialEq, Eq)]
 pub struct SizeLine {
     pub bytes: usize,
     pub digits: usize,
@@ -29,7 +29,7 @@ pub struct SizeLine {
 }
 
 /// Where a chunked body stands.
-#[derive(Clone, Copy, Debug, PartialEq, Eq, Hash)]
+#[derive(Clone, Copy, PartialEq, Eq)]
 pub enum Phase {
     /// In a chunk line.
     Line(SizeLine),
@@ -44,7 +44,7 @@ pub enum Phase {
 }
 
 /// What one byte of a chunked body says.
-#[derive(Clone, Copy, Debug, PartialEq, Eq, Hash)]
+#[derive(Clone, Copy, PartialEq, Eq)]
 pub enum Chunk {
     /// It is one of those between the chunks' bytes.
     On(Phase),
@@ -57,7 +57,7 @@ pub enum Chunk {
 }
 
 /// What bytes say of a chunked body.
-#[derive(Clone, Copy, Debug, PartialEq, Eq, Hash)]
+#[derive(Clone, Copy, PartialEq, Eq)]
 pub enum Chunks {
     /// It hasn't ended.
     Open(Phase),

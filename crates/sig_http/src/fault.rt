@@ -2,7 +2,7 @@ use sig_json::{MemoryRefusal, Text};
 use thiserror::Error;
 
 /// Why no message is read.
-#[derive(Clone, Copy, Debug, PartialEq, Eq, Hash, Error)]
+#[derive(Clone, Copy, Debug, PartialEq, Eq, Error)]
 pub enum HttpFault {
     /// The head section is no head of HTTP/1.0 or HTTP/1.1 of at most `HEADER_FIELDS` fields (RFC 9112, sections 2 to 5).
     #[error("the head is no HTTP head")]
@@ -34,7 +34,7 @@ pub enum HttpFault {
 }
 
 /// Why a message isn't written whole.
-#[derive(Clone, Copy, Debug, PartialEq, Eq, Hash, Error)]
+#[derive(Clone, Copy, Debug, PartialEq, Eq, Error)]
 pub enum SendFault {
     /// The sink failed.
     #[error("the sink failed")]
@@ -48,7 +48,7 @@ pub enum SendFault {
 }
 
 /// Why the routes of a server refuse a request that was read.
-#[derive(Debug, PartialEq, Drop)]
+#[derive(PartialEq, Drop)]
 pub enum HttpRefusal {
     /// No route has this path (RFC 9110, section 15.5.5).
     Path,

@@ -9,7 +9,7 @@ use httparse::spans::HeaderSpan;
 use sig_json::limits::{REQUEST_BODY_BYTES, RESPONSE_BODY_BYTES};
 
 /// How the body of a message ends (RFC 9112, section 6.3).
-#[derive(Clone, Copy, Debug, PartialEq, Eq, Hash)]
+#[derive(Clone, Copy, PartialEq, Eq)]
 pub enum Framing {
     /// After so many bytes.
     Length(usize),

@@ -6,7 +6,7 @@ use std::marker::Model;
 /// Bytes that were taken of a source and not used, which are the first of the next message.
 ///
 /// Contracts see them as a list. After a message there are at most `limits::PIECE_BYTES` more than before.
-#[derive(Debug, Drop)]
+#[derive(Drop)]
 pub struct Kept {
     pub(crate) bytes: Vec<u8>,
 }

@@ -4,7 +4,7 @@ use sig_json::{Bytes, Copied, Items, Memory, Text, copy_items, copy_optional};
 use std::alloc::Global;
 
 /// A request.
-#[derive(Debug, PartialEq, Drop)]
+#[derive(PartialEq, Drop)]
 pub struct Request {
     /// The method, a token (RFC 9110, section 9.1).
     pub method: Text,
@@ -21,14 +21,14 @@ pub struct Request {
 }
 
 /// A field of a response that is written.
-#[derive(Debug, PartialEq, Drop)]
+#[derive(PartialEq, Drop)]
 pub struct Header {
     pub name: Text,
     pub value: Text,
 }
 
 /// A response.
-#[derive(Debug, PartialEq, Drop)]
+#[derive(PartialEq, Drop)]
 pub struct Response {
     /// The status code (RFC 9110, section 15).
     pub status: u16,
@@ -41,7 +41,7 @@ pub struct Response {
 }
 
 /// What a reader of requests gives.
-#[derive(Debug, PartialEq, Drop)]
+#[derive(PartialEq, Drop)]
 pub enum Got {
     /// The next request.
     Request(Request),

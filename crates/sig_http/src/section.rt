@@ -4,7 +4,7 @@ ghost use Rattle.sig_http.specs.Section.{Counts, after_byte, after_line, begun_w
 use sig_json::limits::{HEAD_BYTES, HEADER_FIELDS};
 
 /// What stands of the line that is being read: nothing, one CR alone, or more.
-#[derive(Clone, Copy, Debug, PartialEq, Eq, Hash)]
+#[derive(Clone, Copy, PartialEq, Eq)]
 pub enum Begun {
     Nothing,
     Return,
@@ -12,7 +12,7 @@ pub enum Begun {
 }
 
 /// How far a head section was read: its bytes, its lines from the first that isn't empty, and the line that is open.
-#[derive(Clone, Copy, Debug, PartialEq, Eq, Hash)]
+#[derive(Clone, Copy, PartialEq, Eq)]
 pub struct Scan {
     pub bytes: usize,
     pub lines: usize,
@@ -20,7 +20,7 @@ pub struct Scan {
 }
 
 /// What bytes say of a head section.
-#[derive(Clone, Copy, Debug, PartialEq, Eq, Hash)]
+#[derive(Clone, Copy, PartialEq, Eq)]
 pub enum Section {
     /// It hasn't ended.
     Open(Scan),

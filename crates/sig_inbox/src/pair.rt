@@ -4,7 +4,7 @@ use sig_json::{Copied, Memory, Same, Text};
 use std::alloc::Global;
 
 /// What a token is known by: its issuer and its identifier under that issuer (RFC 8417, section 2.2).
-#[derive(Debug, PartialEq, Eq, Hash, Drop)]
+#[derive(PartialEq, Eq, Hash, Drop)]
 pub struct Pair {
     /// The issuer.
     pub iss: Text,

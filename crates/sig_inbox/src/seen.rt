@@ -7,7 +7,7 @@ use std::alloc::Global;
 use std::marker::Model;
 
 /// What a pair that is added met.
-#[derive(Clone, Copy, Debug, PartialEq, Eq, Hash)]
+#[derive(Clone, Copy, PartialEq, Eq)]
 pub enum Found {
     /// It was there, and nothing changed.
     There,
@@ -17,7 +17,7 @@ pub enum Found {
 
 /// The pairs of the tokens that were taken, each once, in the order in which they came. Contracts see their list, and for
 /// how many more there is room.
-#[derive(Debug, Drop)]
+#[derive(Drop)]
 pub struct Seen {
     alloc: Global,
     pairs: IndexSet<Pair>,

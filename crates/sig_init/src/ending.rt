@@ -4,7 +4,7 @@ ghost use Rattle.sig_init.specs.Ends.{end_of};
 use sig_journal::MakeFault;
 
 /// How the making of an empty store ended.
-#[derive(Clone, Copy, Debug, PartialEq, Eq)]
+#[derive(Clone, Copy, PartialEq, Eq)]
 pub enum InitEnd {
     /// The store is made and synced.
     Done,

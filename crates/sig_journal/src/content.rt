@@ -13,7 +13,7 @@ use sig_json::{Bytes, Items};
 use std::alloc::Global;
 
 /// What a file holds, with the places of the gates of its records and the place after the last gate.
-#[derive(Debug, Drop)]
+#[derive(Drop)]
 pub struct FileContent {
     pub store_id: [u8; 16],
     pub snapshot: Bytes,

@@ -7,7 +7,7 @@ use std::marker::Model;
 
 /// A record as it is written after its gate: its length, its payload and the closed gate of the next. Contracts see it as
 /// its payload.
-#[derive(Debug, Drop)]
+#[derive(Drop)]
 pub struct Framed {
     bytes: Vec<u8>,
 }

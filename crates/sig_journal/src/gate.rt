@@ -6,7 +6,7 @@ use crate::header::{field, number_in_8};
 use crate::layout::GATE_OPEN;
 
 /// How a file begins.
-#[derive(Clone, Copy, Debug, PartialEq, Eq)]
+#[derive(Clone, Copy, PartialEq, Eq)]
 pub enum Gate {
     /// It has no byte.
     NoByte,

@@ -15,7 +15,7 @@ use sig_outside::Disk;
 use std::alloc::Global;
 
 // The file in force, and what it holds.
-#[derive(Debug, Drop)]
+#[derive(Drop)]
 pub struct Found {
     pub in_b: bool,
     pub content: FileContent,

@@ -15,7 +15,7 @@ use sig_json::limits::LAST_NUMBER;
 use std::alloc::Global;
 
 /// The records of a file, the places of their gates, and the place of the gate that ends them.
-#[derive(Debug, Drop)]
+#[derive(Drop)]
 pub struct Records {
     pub payloads: Vec<Bytes>,
     pub places: Vec<u64>,

@@ -16,7 +16,7 @@ const EMPTY: [u8; 36] = [
 
 const PAYLOAD: [u8; 11] = *b"\x06\x00\x00\x00\x06acme-1";
 
-#[derive(Clone, Copy, Debug, PartialEq, Eq)]
+#[derive(Clone, Copy, PartialEq, Eq)]
 enum Outcome {
     Held { file: u8, records: u64 },
     Damaged { file: u8, at: u64 },

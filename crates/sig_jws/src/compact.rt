@@ -14,7 +14,7 @@ use std::alloc::Global;
 use thiserror::Error;
 
 /// A text in compact form, decoded: what its three parts hold, and the text that the MAC covers.
-#[derive(Debug, PartialEq, Eq, Hash, Drop)]
+#[derive(PartialEq, Eq, Drop)]
 pub struct Compact {
     /// The bytes of the header.
     pub header: Bytes,
@@ -27,7 +27,7 @@ pub struct Compact {
 }
 
 /// Why a text has no compact form.
-#[derive(Clone, Copy, Debug, PartialEq, Eq, Hash, Error)]
+#[derive(Clone, Copy, Debug, PartialEq, Eq, Error)]
 pub enum SplitFault {
     /// There are not two dots, or a part is empty.
     #[error("the text has not three parts")]

@@ -18,7 +18,7 @@ use std::marker::Model;
 /// A transmitter's streams, what each owes, and all that was published. It keeps its allocator.
 ///
 /// Contracts see its books and its room.
-#[derive(Debug, Drop)]
+#[derive(Drop)]
 pub struct Ledger {
     alloc: Global,
     store_id: [u8; 16],

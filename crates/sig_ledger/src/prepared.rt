@@ -8,7 +8,7 @@ use std::alloc::Global;
 use std::marker::Model;
 
 /// What is kept of a fact beside itself, made ready before it is taken in. What a fact needs none of is empty.
-#[derive(Debug, Drop)]
+#[derive(Drop)]
 pub struct Spare {
     client: Text,
     name: Option<SharedName>,
@@ -112,7 +112,7 @@ impl Spare {
 }
 
 /// A fact that is ready to be taken in without memory.
-#[derive(Debug, Drop)]
+#[derive(Drop)]
 pub struct Prepared {
     fact: Fact,
     spare: Spare,

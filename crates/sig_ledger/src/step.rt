@@ -4,7 +4,7 @@ use crate::Prepared;
 use sig_terms::Answer;
 
 /// How a call is answered, and the fact that it makes.
-#[derive(Debug, Drop)]
+#[derive(Drop)]
 pub struct Step {
     /// The answer.
     pub answer: Answer,

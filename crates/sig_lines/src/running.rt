@@ -12,7 +12,7 @@ use sig_outside::{Line, LineFault, Lines, PutFault, Sink, Source, put_all};
 use std::alloc::Global;
 
 /// Why a run ended before the end of its input.
-#[derive(Clone, Copy, Debug, PartialEq, Eq)]
+#[derive(Clone, Copy, PartialEq, Eq)]
 pub enum RunFault {
     /// The input failed.
     Input,

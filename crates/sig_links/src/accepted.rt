@@ -1,5 +1,5 @@
 /// What a door answers.
-#[derive(Debug, Drop)]
+#[derive(Drop)]
 pub enum Accepted<L, S> {
     /// A link came; the side stands beside it.
     Link { link: L, side: S },

@@ -6,7 +6,7 @@ use sig_outside::Failed;
 use std::marker::Model;
 
 /// How many calls of something failed. It stands at 2^64 - 1.
-#[derive(Debug, Drop)]
+#[derive(Drop)]
 pub struct FaultCount {
     count: u64,
 }

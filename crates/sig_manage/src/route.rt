@@ -10,7 +10,7 @@ use sig_json::{Memory, Text};
 use std::alloc::Global;
 
 /// A route: what a request at its path with its method is read as, and who may make it.
-#[derive(Clone, Copy, Debug, PartialEq, Eq)]
+#[derive(Clone, Copy, PartialEq, Eq)]
 pub enum Route {
     /// Anybody reads what the transmitter offers (OpenID Shared Signals Framework 1.0, section 7.1).
     Metadata,
@@ -25,7 +25,7 @@ pub enum Route {
 }
 
 /// A call of a client that the query says (OpenID Shared Signals Framework 1.0, section 8.1).
-#[derive(Clone, Copy, Debug, PartialEq, Eq)]
+#[derive(Clone, Copy, PartialEq, Eq)]
 pub enum QueryCall {
     /// It reads the configuration of one stream, or of all.
     Read,
@@ -36,7 +36,7 @@ pub enum QueryCall {
 }
 
 /// A call of a client that the body says (OpenID Shared Signals Framework 1.0, section 8.1).
-#[derive(Clone, Copy, Debug, PartialEq, Eq)]
+#[derive(Clone, Copy, PartialEq, Eq)]
 pub enum BodyCall {
     /// It makes a stream.
     Create,
@@ -55,7 +55,7 @@ pub enum BodyCall {
 }
 
 /// A call of the operator, which the body says.
-#[derive(Clone, Copy, Debug, PartialEq, Eq)]
+#[derive(Clone, Copy, PartialEq, Eq)]
 pub enum OperatorCall {
     /// It publishes an event.
     Publish,

@@ -1,7 +1,7 @@
 use crate::{MemLink, MemSide};
 
 /// A link that comes to a door, and the side beside it.
-#[derive(Debug, Drop)]
+#[derive(Drop)]
 pub struct Coming {
     pub link: MemLink,
     pub side: MemSide,

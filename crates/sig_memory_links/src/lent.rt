@@ -7,7 +7,7 @@ use std::alloc::Global;
 use std::marker::Model;
 
 /// What is handed out and comes back. It has room for all that is out.
-#[derive(Debug, Drop)]
+#[derive(Drop)]
 pub(crate) struct Lent<T> {
     back: Vec<T>,
     out: usize,

@@ -4,7 +4,7 @@ use sig_links::FaultCount;
 use sig_outside::{Disk, Failed};
 
 /// The disk of a store that is out. It is that disk, and counts the calls that failed since it was handed out.
-#[derive(Debug, Drop)]
+#[derive(Drop)]
 pub struct LentDisk<D> {
     disk: D,
     faults: FaultCount,

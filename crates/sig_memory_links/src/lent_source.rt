@@ -8,7 +8,7 @@ use sig_links::FaultCount;
 use sig_outside::{Failed, Source};
 
 /// Settings that are out. They keep their name, and count the reads that failed since they were handed out.
-#[derive(Debug, Drop)]
+#[derive(Drop)]
 pub struct LentSource {
     named: NamedSource,
     faults: FaultCount,

@@ -14,7 +14,7 @@ use std::marker::Model;
 
 /// A door in memory. It tells the links that come, and what was written to those that were given back. An accept that is
 /// refused memory fails.
-#[derive(Debug, Drop)]
+#[derive(Drop)]
 pub struct MemDoor {
     place: Option<Place>,
     coming: Vec<Coming>,

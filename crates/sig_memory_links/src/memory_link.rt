@@ -15,7 +15,7 @@ use std::marker::Model;
 /// A link in memory. It tells what is left to read and what was written.
 ///
 /// A write that is refused memory fails.
-#[derive(Debug, Drop)]
+#[derive(Drop)]
 pub struct MemLink {
     source: MemSource,
     written: Bytes,

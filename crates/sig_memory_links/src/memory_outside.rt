@@ -21,7 +21,7 @@ use std::marker::Model;
 ///
 /// What comes back is kept: settings and stores under their names, doors and sides in order. What it didn't hand out isn't
 /// kept. A call that is refused memory fails.
-#[derive(Debug, Drop)]
+#[derive(Drop)]
 pub struct MemOutside {
     alloc: Global,
     settings: HeldSettings,

@@ -15,7 +15,7 @@ use std::marker::Model;
 /// A side in memory. It tells the links that its dials will give, its times, and what was sent.
 ///
 /// A dial that is refused memory fails.
-#[derive(Debug, Drop)]
+#[derive(Drop)]
 pub struct MemSide {
     alloc: Global,
     ahead: Vec<MemLink>,

@@ -8,14 +8,14 @@ use sig_json::Text;
 use sig_outside::{MemDisk, MemSource};
 
 /// Settings with their name.
-#[derive(Debug, Drop)]
+#[derive(Drop)]
 pub struct NamedSource {
     pub name: Text,
     pub source: MemSource,
 }
 
 /// The file of a store with its name.
-#[derive(Debug, Drop)]
+#[derive(Drop)]
 pub struct NamedDisk {
     pub name: Text,
     pub disk: MemDisk,

@@ -13,7 +13,7 @@ use std::alloc::Global;
 use std::marker::Model;
 
 // Doors in order, and those that are out or came back.
-#[derive(Debug, Drop)]
+#[derive(Drop)]
 pub(crate) struct HeldDoors {
     alloc: Global,
     ahead: Vec<MemDoor>,

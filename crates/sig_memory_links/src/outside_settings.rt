@@ -9,7 +9,7 @@ use sig_json::Items;
 use std::marker::Model;
 
 // Settings by their names. What comes back stands last, and there is room for it.
-#[derive(Debug, Drop)]
+#[derive(Drop)]
 pub(crate) struct HeldSettings {
     there: Vec<NamedSource>,
     out: usize,

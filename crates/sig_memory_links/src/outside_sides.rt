@@ -11,7 +11,7 @@ use std::marker::Model;
 
 // Sides in order: those that came back, and then those that are ahead. A side that comes back takes the room that one left,
 // so that handing one out takes no memory.
-#[derive(Debug, Drop)]
+#[derive(Drop)]
 pub(crate) struct HeldSides {
     sides: Vec<MemSide>,
     back: usize,

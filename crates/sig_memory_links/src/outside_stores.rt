@@ -13,7 +13,7 @@ use std::alloc::Global;
 use std::marker::Model;
 
 // Stores by their names. There is room for all that are out.
-#[derive(Debug, Drop)]
+#[derive(Drop)]
 pub(crate) struct HeldStores {
     alloc: Global,
     there: Vec<NamedDisk>,

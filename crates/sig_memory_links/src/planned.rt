@@ -5,7 +5,7 @@ use sig_json::Items;
 use std::marker::Model;
 
 /// The calls that are to fail, by their numbers from 0, and how many were made.
-#[derive(Debug, Drop)]
+#[derive(Drop)]
 pub(crate) struct PlannedFaults {
     numbers: Items<u64>,
     calls: u64,

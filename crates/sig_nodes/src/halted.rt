@@ -1,5 +1,5 @@
 /// What became of a call while its node's disk stood still.
-#[derive(Debug, Drop)]
+#[derive(Drop)]
 pub enum Halted<A> {
     /// It made no call of the disk, and was answered.
     Answered(

@@ -12,7 +12,7 @@ use std::marker::Model;
 /// A transmitter's streams, what each owes, and all that was published. It keeps its allocator.
 ///
 /// Contracts see what the history came to, and for what there is room.
-#[derive(Debug, Drop)]
+#[derive(Drop)]
 pub struct Outbox {
     ledger: Ledger,
 }

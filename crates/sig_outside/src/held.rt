@@ -13,7 +13,7 @@ use std::marker::Model;
 ///
 /// It stands in the vector from the start place on, so that giving a short line moves the place alone. The bytes are moved
 /// down only before a further piece is taken.
-#[derive(Debug, Drop)]
+#[derive(Drop)]
 pub struct Held {
     bytes: Vec<u8>,
     start: usize,

@@ -5,7 +5,7 @@ use std::alloc::Global;
 use thiserror::Error;
 
 /// A line of a text, without the LF that ends it and one CR before that.
-#[derive(Debug, PartialEq, Eq, Drop)]
+#[derive(PartialEq, Eq, Drop)]
 pub enum Line {
     /// The line of this number, from 1, and its bytes.
     Text { number: u64, bytes: Bytes },
@@ -32,7 +32,7 @@ impl Line {
 }
 
 /// Why no line is given.
-#[derive(Clone, Copy, Debug, PartialEq, Eq, Hash, Error)]
+#[derive(Clone, Copy, Debug, PartialEq, Eq, Error)]
 pub enum LineFault {
     /// The source failed, now or in an earlier call of this reader.
     #[error("the input failed")]

@@ -14,7 +14,7 @@ use std::marker::Model;
 /// A reader of the lines of a source, which keeps what it took and has not given yet.
 ///
 /// The caller lends the same source each time.
-#[derive(Debug, Drop)]
+#[derive(Drop)]
 pub struct Lines {
     held: Held,
     number: u64,

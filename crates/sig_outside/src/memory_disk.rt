@@ -17,7 +17,7 @@ use std::marker::Model;
 /// A disk in memory. It tells its file, keeps each call made of it, and stands still where it is asked to.
 ///
 /// A call that is refused memory fails, and the disk is short from then on.
-#[derive(Debug, Drop)]
+#[derive(Drop)]
 pub struct MemDisk {
     alloc: Global,
     first: Bytes,

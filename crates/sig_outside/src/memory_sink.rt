@@ -11,7 +11,7 @@ use std::marker::Model;
 
 /// A sink of bytes in memory. It tells what is written. A call that is refused memory fails; it is counted among those
 /// that failed, and apart too.
-#[derive(Debug, Drop)]
+#[derive(Drop)]
 pub struct MemSink {
     bytes: Bytes,
     piece: usize,

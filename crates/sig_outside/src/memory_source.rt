@@ -10,7 +10,7 @@ use sig_json::{Bytes, Items};
 use std::marker::Model;
 
 /// A source of bytes in memory. It tells what is left.
-#[derive(Debug, Drop)]
+#[derive(Drop)]
 pub struct MemSource {
     bytes: Bytes,
     at: usize,

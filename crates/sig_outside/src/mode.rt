@@ -1,5 +1,5 @@
 /// What a reader of lines may still answer. The last two stay.
-#[derive(Clone, Copy, Debug, PartialEq, Eq, Hash)]
+#[derive(Clone, Copy, PartialEq, Eq)]
 pub enum Mode {
     /// It reads on.
     Open,

@@ -11,7 +11,7 @@ use sig_json::{Bytes, Memory};
 use std::alloc::Global;
 
 /// Where the first line of what is kept ends.
-#[derive(Clone, Copy, Debug, Drop)]
+#[derive(Clone, Copy, Drop)]
 pub enum Reach {
     /// At the LF of this place.
     Newline(usize),

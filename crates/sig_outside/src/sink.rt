@@ -31,7 +31,7 @@ pub trait Sink {
 }
 
 /// Why not all bytes were put.
-#[derive(Clone, Copy, Debug, PartialEq, Eq, Hash, Error)]
+#[derive(Clone, Copy, Debug, PartialEq, Eq, Error)]
 pub enum PutFault {
     /// The sink failed.
     #[error("the output failed")]

@@ -1,7 +1,7 @@
 //! What is kept of a place that was put.
 
 /// A key, and a place that was put under it.
-#[derive(Clone, Copy, Debug, PartialEq, Eq, Hash)]
+#[derive(Clone, Copy, PartialEq, Eq)]
 pub struct Entry {
     /// The key.
     pub key: u64,
@@ -10,7 +10,7 @@ pub struct Entry {
 }
 
 /// How an entry stands among those of its key.
-#[derive(Clone, Copy, Debug, PartialEq, Eq, Hash)]
+#[derive(Clone, Copy, PartialEq, Eq)]
 pub(crate) struct Link {
     /// The number of the one before it, counted from 1; 0 where it is the first.
     pub previous: usize,

@@ -10,7 +10,7 @@ use std::marker::Model;
 
 /// Places under keys, in the order in which they were put. Contracts see the list of them, and for how many more there is
 /// room.
-#[derive(Debug, Drop)]
+#[derive(Drop)]
 pub struct Places {
     newest: IndexMap<u64, usize>,
     entries: Vec<Entry>,

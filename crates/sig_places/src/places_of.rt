@@ -4,7 +4,7 @@ use crate::entry::{Entry, Link};
 use std::marker::Model;
 
 /// The places under a key, newest first. Contracts see the list of those that are left.
-#[derive(Debug, Drop)]
+#[derive(Drop)]
 pub struct PlacesOf<'a> {
     entries: &'a [Entry],
     links: &'a [Link],

@@ -1,7 +1,7 @@
 use sig_command::LinesEnd;
 
 /// How a run ends. Each ending has its status and its last line of text, and comes by its cause.
-#[derive(Clone, Copy, Debug, PartialEq, Eq, Hash)]
+#[derive(Clone, Copy, PartialEq, Eq)]
 pub enum Ending {
     /// The words are no command.
     Usage,

@@ -2,7 +2,7 @@ use sig_json::MemoryRefusal;
 use thiserror::Error;
 
 /// Why a push settles nothing.
-#[derive(Clone, Copy, Debug, PartialEq, Eq, Hash, Error)]
+#[derive(Clone, Copy, Debug, PartialEq, Eq, Error)]
 pub enum PushFault {
     /// The token has no endpoint: its stream is polled. Nothing is dialled.
     #[error("the token has no endpoint")]

@@ -2,7 +2,7 @@ use sig_json::Same;
 use sig_set::{Code, Spot};
 
 /// What a receiver answers to a token.
-#[derive(Clone, Copy, Debug, PartialEq, Eq, Hash)]
+#[derive(Clone, Copy, PartialEq, Eq)]
 pub enum Heard {
     /// It is valid and new: it stands in the journal from now on, and has had its effect.
     Accepted,

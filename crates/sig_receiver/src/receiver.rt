@@ -13,7 +13,7 @@ use std::marker::Model;
 
 /// What a receiver keeps of its journal: which tokens it took, and the session table that they made. Contracts see the
 /// pairs, the rows, and for how many more there is room. Beside these it keeps the header that was judged last.
-#[derive(Debug, Drop)]
+#[derive(Drop)]
 pub struct Receiver {
     alloc: Global,
     seen: Seen,

@@ -3,7 +3,7 @@ ghost use Rattle.sig_risc.specs.Table.{risc_types, type_text};
 use sig_json::{Listed, Same};
 
 /// A type of event of RISC (RISC 1.0, section 2); its text is the last part of its URI.
-#[derive(Clone, Copy, Debug, PartialEq, Eq, Hash)]
+#[derive(Clone, Copy, PartialEq, Eq)]
 pub enum RiscType {
     /// The account's credential has to be changed (section 2.1).
     CredentialChangeRequired,

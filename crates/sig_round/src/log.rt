@@ -5,7 +5,7 @@ use sig_txnode::{Taker, Turn};
 use std::sync::Wait;
 
 /// The turns that a link made, and as whom it asks the next.
-#[derive(Debug, Drop)]
+#[derive(Drop)]
 pub struct TurnLog {
     /// The number of the link.
     pub link: u32,

@@ -2,7 +2,7 @@ use sig_json::MemoryRefusal;
 use sig_outside::LineFault;
 
 /// Why the cases end before their last line.
-#[derive(Clone, Copy, Debug, PartialEq, Eq)]
+#[derive(Clone, Copy, PartialEq, Eq)]
 pub enum Fault {
     /// The line is no case.
     Case,

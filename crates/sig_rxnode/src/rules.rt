@@ -7,7 +7,7 @@ use sig_terms::Endpoint;
 use std::alloc::Global;
 
 /// Who may push tokens, and for whom.
-#[derive(Debug, PartialEq, Drop)]
+#[derive(PartialEq, Drop)]
 pub struct Principal {
     /// The bearer token that it shows (RFC 6750, section 2.1).
     pub bearer: Text,
@@ -16,7 +16,7 @@ pub struct Principal {
 }
 
 /// A transmitter whose tokens are fetched.
-#[derive(Debug, PartialEq, Drop)]
+#[derive(PartialEq, Drop)]
 pub struct Peer {
     /// Where it is polled.
     pub endpoint: Endpoint,
@@ -29,7 +29,7 @@ pub struct Peer {
 }
 
 /// The settings of a receiver.
-#[derive(Debug, PartialEq, Drop)]
+#[derive(PartialEq, Drop)]
 pub struct RxRules {
     /// Whom it trusts.
     pub trust: Trust,

@@ -5,7 +5,7 @@ use sig_json::{Copied, Memory, Same};
 use std::alloc::Global;
 
 /// A call as a node took it, and its answer.
-#[derive(Debug, PartialEq, Drop)]
+#[derive(PartialEq, Drop)]
 pub struct RxTurn {
     /// The number of the link that made it.
     pub link: u32,

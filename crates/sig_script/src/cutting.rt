@@ -4,7 +4,7 @@ ghost use Rattle.std.specs.Prelude.{◌≡◌, option_map};
 ghost use Rattle.sig_script.specs.Cutting as spec;
 
 /// A word, and what stands after the space behind it.
-#[derive(Clone, Copy, Debug)]
+#[derive(Clone, Copy)]
 pub(crate) struct Cut<'a> {
     /// The word.
     pub(crate) word: &'a str,
@@ -13,7 +13,7 @@ pub(crate) struct Cut<'a> {
 }
 
 /// A client's name, a stream's name, and what stands after them.
-#[derive(Clone, Copy, Debug)]
+#[derive(Clone, Copy)]
 pub(crate) struct Names<'a> {
     /// The client's name.
     pub(crate) client: &'a str,

@@ -5,7 +5,7 @@ ghost use Rattle.sig_script.specs.LineWords.{line_words, word_text};
 use sig_json::Listed;
 
 /// The first word of a line, which says what the line is.
-#[derive(Clone, Copy, Debug, PartialEq, Eq, Hash)]
+#[derive(Clone, Copy, PartialEq, Eq)]
 pub(crate) enum LineWord {
     /// It is another time.
     Time,

@@ -5,7 +5,7 @@ ghost use Rattle.sig_script.specs.Nodes.{node_text, nodes};
 use sig_json::Listed;
 
 /// A node of a script.
-#[derive(Clone, Copy, Debug, PartialEq, Eq, Hash)]
+#[derive(Clone, Copy, PartialEq, Eq)]
 pub enum ScriptNode {
     /// The transmitter.
     Tx,

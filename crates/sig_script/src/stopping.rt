@@ -8,7 +8,7 @@ use crate::cutting::at_first_space;
 use sig_json::value_named;
 
 /// How a node's disk stands still, and the line that is played meanwhile.
-#[derive(Clone, Copy, Debug)]
+#[derive(Clone, Copy)]
 pub(crate) struct Stopping<'a> {
     /// Whose disk.
     pub(crate) node: ScriptNode,

@@ -7,7 +7,7 @@ use sig_settings::SettingsFault;
 use sig_txwatch::Differ;
 
 /// How the serving of a transmitter ended.
-#[derive(Debug, PartialEq, Eq, Drop)]
+#[derive(PartialEq, Eq, Drop)]
 pub enum ServeEnd {
     /// As many watches ran as were asked for, or a watch reports that its door is shut.
     Done,

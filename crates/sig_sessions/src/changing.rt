@@ -10,7 +10,7 @@ use sig_places::Places;
 use std::marker::Model;
 
 /// A change of the table that is ready to be taken in without memory. `Table::commit` alone takes it.
-#[derive(Debug, Drop)]
+#[derive(Drop)]
 pub struct Change {
     updates: Vec<Update>,
     added: Option<Row>,

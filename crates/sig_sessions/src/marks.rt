@@ -6,7 +6,7 @@ ghost use Rattle.sig_sessions.specs.Marks as spec;
 use crate::{Account, Device, Row, Session};
 
 /// One thing that a row may say.
-#[derive(Clone, Copy, Debug, PartialEq, Eq, Hash)]
+#[derive(Clone, Copy, PartialEq, Eq)]
 pub(crate) enum Mark {
     Live,
     Revoked,

@@ -19,7 +19,7 @@ use sig_subject::{covers, identical};
 use std::alloc::Global;
 
 /// What is found of the claims' subject among the rows: what becomes of those that it covers, and whether one is its own.
-#[derive(Debug, Drop)]
+#[derive(Drop)]
 pub(crate) struct Found {
     /// What becomes of the rows that it covers; one row may stand twice.
     pub updates: Vec<Update>,

@@ -5,7 +5,7 @@ ghost use Rattle.sig_sessions.specs.Spelled.{account_text, accounts, device_text
 use sig_json::{Listed, Same};
 
 /// A session.
-#[derive(Clone, Copy, Debug, PartialEq, Eq, Hash)]
+#[derive(Clone, Copy, PartialEq, Eq)]
 pub enum Session {
     /// Nothing is known of it.
     Unseen,
@@ -16,7 +16,7 @@ pub enum Session {
 }
 
 /// An account.
-#[derive(Clone, Copy, Debug, PartialEq, Eq, Hash)]
+#[derive(Clone, Copy, PartialEq, Eq)]
 pub enum Account {
     /// Nothing is known of it.
     Unseen,
@@ -29,7 +29,7 @@ pub enum Account {
 }
 
 /// A device's compliance.
-#[derive(Clone, Copy, Debug, PartialEq, Eq, Hash)]
+#[derive(Clone, Copy, PartialEq, Eq)]
 pub enum Device {
     /// Nothing is known of it.
     Unseen,
@@ -40,7 +40,7 @@ pub enum Device {
 }
 
 /// Whether the subject takes part.
-#[derive(Clone, Copy, Debug, PartialEq, Eq, Hash)]
+#[derive(Clone, Copy, PartialEq, Eq)]
 pub enum Opt {
     /// Nothing is known of it.
     Unseen,

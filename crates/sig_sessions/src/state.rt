@@ -1,7 +1,7 @@
 use crate::{Account, Device, Opt, Session};
 
 /// What is known of a row but its subject and its level.
-#[derive(Clone, Copy, Debug, PartialEq, Eq, Hash)]
+#[derive(Clone, Copy, PartialEq, Eq)]
 pub(crate) struct State {
     pub session: Session,
     pub account: Account,

@@ -13,7 +13,7 @@ use std::alloc::Global;
 use std::marker::Model;
 
 /// The session table: rows in order of first mention, no two of them of identical subjects.
-#[derive(Debug, Drop)]
+#[derive(Drop)]
 pub struct Table {
     alloc: Global,
     rows: Vec<Row>,

@@ -12,7 +12,7 @@ use sig_places::{Places, PlacesOf};
 use sig_subject::{Member, Subject, covers, identical};
 
 /// What rows say of a subject: its own row, and those that cover it.
-#[derive(Clone, Copy, Debug, PartialEq, Eq, Hash)]
+#[derive(Clone, Copy, PartialEq, Eq)]
 pub(crate) struct Tally {
     /// There is a row of its own.
     pub known: bool,

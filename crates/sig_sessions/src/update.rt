@@ -2,7 +2,7 @@ use crate::state::State;
 use sig_json::Text;
 
 /// What becomes of the row at a place.
-#[derive(Debug, Drop)]
+#[derive(Drop)]
 pub(crate) struct Update {
     /// Its place, from 0.
     pub place: usize,

@@ -14,7 +14,7 @@ use sig_places::Places;
 use sig_subject::Subject;
 
 /// What the session table says of a subject.
-#[derive(Clone, Copy, Debug, PartialEq, Eq, Hash)]
+#[derive(Clone, Copy, PartialEq, Eq)]
 pub struct Verdict {
     /// Whether a row is identical to it.
     pub known: bool,

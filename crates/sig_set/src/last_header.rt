@@ -14,7 +14,7 @@ use std::alloc::Global;
 use std::marker::Model;
 
 /// The bytes of a token's header, and what they spell, which met its checks. Contracts see the bytes.
-#[derive(Debug, Drop)]
+#[derive(Drop)]
 struct Header {
     bytes: Bytes,
     value: Value,
@@ -60,7 +60,7 @@ impl Header {
 
 /// The last header that was one of a token, for a judgement of many tokens: an equal one is neither read nor checked anew.
 /// What is judged doesn't rest on it. Contracts see its bytes, none where no token came yet.
-#[derive(Debug, Drop)]
+#[derive(Drop)]
 pub struct LastHeader {
     header: Option<Header>,
 }

@@ -9,7 +9,7 @@ use std::alloc::Global;
 use std::marker::Model;
 
 /// An issuer whose keys are prepared. Contracts see the issuer.
-#[derive(Debug, Drop)]
+#[derive(Drop)]
 pub struct PreparedIssuer {
     iss: Text,
     keys: Items<PreparedKey>,
@@ -50,7 +50,7 @@ impl PreparedIssuer {
 }
 
 /// A trust whose keys are prepared, for a judgement of many tokens. Contracts see the trust.
-#[derive(Debug, Drop)]
+#[derive(Drop)]
 pub struct PreparedTrust {
     audience: Text,
     issuers: Items<PreparedIssuer>,

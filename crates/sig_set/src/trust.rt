@@ -5,7 +5,7 @@ use sig_jws::Key;
 use std::alloc::Global;
 
 /// An issuer whose tokens are taken, with the keys that it signs with.
-#[derive(Debug, PartialEq, Drop)]
+#[derive(PartialEq, Drop)]
 pub struct Issuer {
     /// Its name, compared byte for byte with a token's `iss`.
     pub iss: Text,
@@ -14,7 +14,7 @@ pub struct Issuer {
 }
 
 /// Whom a receiver trusts.
-#[derive(Debug, PartialEq, Drop)]
+#[derive(PartialEq, Drop)]
 pub struct Trust {
     /// The receiver's own name, which a token's `aud` has to have.
     pub audience: Text,

@@ -9,7 +9,7 @@ use std::alloc::Global;
 use std::marker::Model;
 
 /// A disk in memory, no call of which is to fail: it stands still wherever it is asked to.
-#[derive(Debug, Drop)]
+#[derive(Drop)]
 pub struct StillDisk {
     disk: MemDisk,
 }

@@ -6,7 +6,7 @@ use sig_json::{MemoryRefusal, Same};
 use thiserror::Error;
 
 /// Why a node did not answer a call.
-#[derive(Clone, Copy, Debug, PartialEq, Eq, Hash, Error)]
+#[derive(Clone, Copy, Debug, PartialEq, Eq, Error)]
 pub enum NodeFault {
     /// The disk failed in this call or in an earlier one, and counted it. The node answers so until it is loaded again.
     #[error("the disk failed")]

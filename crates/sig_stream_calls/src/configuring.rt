@@ -25,7 +25,7 @@ use sig_terms::{Answer, Delivery, Fact, PrepareFault, StreamConf, Want, copy_opt
 use std::alloc::Global;
 
 /// What becomes of the parts of a configuration that a want doesn't name.
-#[derive(Clone, Copy, Debug, PartialEq, Eq, Hash)]
+#[derive(Clone, Copy, PartialEq, Eq)]
 pub(crate) enum Unnamed {
     /// They stay.
     Stays,

@@ -44,7 +44,7 @@ fn state_turn(alloc: Global, account: Option<&Account>, stream: &Text) -> Result
 }
 
 /// The status that a client sets.
-#[derive(Debug, Drop)]
+#[derive(Drop)]
 struct Wished<'a> {
     status: Status,
     reason: &'a Option<Text>,

@@ -12,7 +12,7 @@ use sig_ledger::{Ledger, Step};
 use sig_terms::{Answer, Fact, PrepareFault};
 
 /// An answer, and the fact that the call makes, where there is one.
-#[derive(Debug, Drop)]
+#[derive(Drop)]
 pub(crate) struct Turn {
     /// The answer.
     pub(crate) answer: Answer,

@@ -2,7 +2,7 @@ ghost use Rattle.std.specs.Prelude.{◌≡◌};
 ghost use Rattle.sig_subject.specs.Formats.{format_in, formats};
 
 /// A format of an identifier without parts (RFC 9493, section 3.2; OpenID Shared Signals Framework 1.0, section 4).
-#[derive(Clone, Copy, Debug, PartialEq, Eq)]
+#[derive(Clone, Copy, PartialEq, Eq)]
 pub enum PlainFormat {
     /// `account` (RFC 9493, section 3.2.1).
     Account,
@@ -27,7 +27,7 @@ pub enum PlainFormat {
 }
 
 /// A format of a subject.
-#[derive(Clone, Copy, Debug, PartialEq, Eq)]
+#[derive(Clone, Copy, PartialEq, Eq)]
 pub enum Format {
     /// An identifier without parts.
     Plain(PlainFormat),

@@ -5,7 +5,7 @@ use sig_json::{Copied, Items, Memory, Same, copy_items};
 use std::alloc::Global;
 
 /// A subject identifier that is no complex one.
-#[derive(Debug, PartialEq, Eq, Hash, Drop)]
+#[derive(PartialEq, Eq, Drop)]
 pub enum Simple {
     /// One identifier.
     Plain(Plain),

@@ -1,7 +1,7 @@
 use thiserror::Error;
 
 /// Why the settings, a store or a door could not be had.
-#[derive(Clone, Copy, Debug, PartialEq, Eq, Hash, Error)]
+#[derive(Clone, Copy, Debug, PartialEq, Eq, Error)]
 pub enum OutsideFault {
     /// The system doesn't open the file of the settings.
     #[error("the settings can't be opened")]

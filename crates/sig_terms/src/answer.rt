@@ -8,7 +8,7 @@ use sig_json::{Copied, Items, Memory, Same, Text, copy_items};
 use std::alloc::Global;
 
 /// What the transmitter answers to a call.
-#[derive(Debug, PartialEq, Eq, Drop)]
+#[derive(PartialEq, Eq, Drop)]
 pub enum Answer {
     /// What the transmitter offers is told from its rules.
     Meta,

@@ -9,7 +9,7 @@ use sig_subject::Subject;
 use std::alloc::Global;
 
 /// A call at the transmitter.
-#[derive(Debug, PartialEq, Eq, Drop)]
+#[derive(PartialEq, Eq, Drop)]
 pub enum Call {
     /// Somebody reads what the transmitter offers (Shared Signals Framework 1.0, section 7.1).
     Metadata,
@@ -149,7 +149,7 @@ pub enum Call {
 }
 
 /// What a poll asks and tells (RFC 8936, section 2.4).
-#[derive(Debug, PartialEq, Eq, Drop)]
+#[derive(PartialEq, Eq, Drop)]
 pub struct PollAsk {
     /// How many tokens it takes at most; none given takes as many as a page has.
     pub max: Option<u64>,
@@ -160,7 +160,7 @@ pub struct PollAsk {
 }
 
 /// A token that a receiver refuses (RFC 8936, section 2.6).
-#[derive(Debug, PartialEq, Eq, Drop)]
+#[derive(PartialEq, Eq, Drop)]
 pub struct Reported {
     /// The token's identifier.
     pub jti: Text,
@@ -169,7 +169,7 @@ pub struct Reported {
 }
 
 /// What became of a token that was brought to its receiver.
-#[derive(Debug, PartialEq, Eq, Drop)]
+#[derive(PartialEq, Eq, Drop)]
 pub enum Outcome {
     /// It was taken.
     Accepted,

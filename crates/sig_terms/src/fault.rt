@@ -4,7 +4,7 @@ use sig_json::MemoryRefusal;
 use thiserror::Error;
 
 /// Why a call wasn't answered.
-#[derive(Clone, Copy, Debug, PartialEq, Eq, Hash, Error)]
+#[derive(Clone, Copy, Debug, PartialEq, Eq, Error)]
 pub enum PrepareFault {
     /// A stream or a token would get this number, which is above 2^62.
     #[error("number {0} is above 2^62")]

@@ -7,7 +7,7 @@ use sig_outside::Place;
 use std::alloc::Global;
 
 /// A client of the transmitter: a receiver that may have streams.
-#[derive(Debug, PartialEq, Drop)]
+#[derive(PartialEq, Drop)]
 pub struct Client {
     /// Its name, 1 to 32 of `a-z` and `0-9`.
     pub name: Text,
@@ -37,7 +37,7 @@ impl Copied for Client {
 }
 
 /// The settings of a transmitter.
-#[derive(Debug, PartialEq, Drop)]
+#[derive(PartialEq, Drop)]
 pub struct Rules {
     /// Who makes the tokens.
     pub issuer: Text,

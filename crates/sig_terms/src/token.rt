@@ -6,7 +6,7 @@ use sig_json::{Copied, Memory, Same, Text, copy_optional};
 use std::alloc::Global;
 
 /// A token that a stream owes.
-#[derive(Debug, PartialEq, Eq, Drop)]
+#[derive(PartialEq, Eq, Drop)]
 pub struct Token {
     /// The name of its stream.
     pub stream: Text,
@@ -21,7 +21,7 @@ pub struct Token {
 }
 
 /// A token that a publication made.
-#[derive(Debug, PartialEq, Eq, Drop)]
+#[derive(PartialEq, Eq, Drop)]
 pub struct Issued {
     /// The name of its stream.
     pub stream: Text,

@@ -8,7 +8,7 @@ use sig_json::{Copied, Items, Memory, Same, Text, copy_optional};
 use std::alloc::Global;
 
 /// Which subjects a stream has before any is added or removed (Shared Signals Framework 1.0, section 7.1).
-#[derive(Clone, Copy, Debug, PartialEq, Eq, Hash)]
+#[derive(Clone, Copy, PartialEq, Eq)]
 pub enum Defaults {
     /// Every subject.
     All,
@@ -27,7 +27,7 @@ impl Same for Defaults {
 }
 
 /// How tokens reach a receiver (Shared Signals Framework 1.0, section 6.1).
-#[derive(Debug, PartialEq, Eq, Drop)]
+#[derive(PartialEq, Eq, Drop)]
 pub enum Delivery {
     /// The receiver asks for them (RFC 8936).
     Poll,
@@ -77,7 +77,7 @@ impl Same for Delivery {
 }
 
 /// What a receiver wants of a stream (Shared Signals Framework 1.0, section 8.1.1).
-#[derive(Debug, PartialEq, Eq, Drop)]
+#[derive(PartialEq, Eq, Drop)]
 pub struct Want {
     /// The URIs of the event types that it asks for; none given asks for all.
     pub requested: Option<Items<Text>>,

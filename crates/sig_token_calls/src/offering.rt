@@ -16,7 +16,7 @@ use sig_terms::{SettledItem, Token};
 use std::alloc::Global;
 
 /// The first tokens that a stream offers.
-#[derive(Debug, Drop)]
+#[derive(Drop)]
 pub(crate) struct Page {
     /// The tokens, in order of number.
     pub tokens: Items<Token>,

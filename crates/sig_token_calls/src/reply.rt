@@ -3,7 +3,7 @@ ghost use Rattle.std.specs.Prelude.{◌≡◌, None};
 use sig_terms::{Answer, Fact};
 
 /// How a call is answered, and the fact that it makes, before anything is made ready for the fact.
-#[derive(Debug, Drop)]
+#[derive(Drop)]
 pub(crate) struct Reply {
     /// The answer.
     pub answer: Answer,

@@ -6,7 +6,7 @@ use sig_txnode::Turn;
 use std::alloc::Global;
 
 /// Why a link is served no more.
-#[derive(Clone, Copy, Debug, PartialEq, Eq)]
+#[derive(Clone, Copy, PartialEq, Eq)]
 pub enum LinkEnd {
     /// The link gave no byte where a request would begin.
     End,
@@ -23,7 +23,7 @@ pub enum LinkEnd {
 }
 
 /// What a link came to.
-#[derive(Debug, PartialEq, Drop)]
+#[derive(PartialEq, Drop)]
 pub struct LinkLog {
     /// The number of the link.
     pub link: u32,

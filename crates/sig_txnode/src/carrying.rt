@@ -22,7 +22,7 @@ use sig_terms::{Answer, Call, Fact, Rules};
 use std::alloc::Global;
 
 /// The answer to a call, the same to be kept, and the fact to be kept.
-#[derive(Debug, Drop)]
+#[derive(Drop)]
 pub struct Given {
     pub answer: Answer,
     pub kept: Answer,

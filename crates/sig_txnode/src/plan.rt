@@ -16,7 +16,7 @@ use sig_terms::{Answer, Call, Fact, PrepareFault, Rules};
 use std::alloc::Global;
 
 /// A fact that is ready to be journalled and taken in: as the core takes it, its record, and the fact to be kept.
-#[derive(Debug, Drop)]
+#[derive(Drop)]
 pub struct Change {
     pub prepared: Prepared,
     pub framed: Framed,
@@ -24,7 +24,7 @@ pub struct Change {
 }
 
 /// How a call is to be answered: the answer, the same to be kept, and its change.
-#[derive(Debug, Drop)]
+#[derive(Drop)]
 pub struct Plan {
     pub answer: Answer,
     pub kept: Answer,

@@ -5,7 +5,7 @@ use sig_txlink::LinkLog;
 use sig_txnode::TxNode;
 
 /// What a watch came to.
-#[derive(Debug, Drop)]
+#[derive(Drop)]
 pub struct Report {
     /// The state of the node before the first link.
     pub base: Outbox,
@@ -16,7 +16,7 @@ pub struct Report {
 }
 
 /// Two kept values that differ, though they should be equal.
-#[derive(Clone, Copy, Debug, PartialEq, Eq)]
+#[derive(Clone, Copy, PartialEq, Eq)]
 pub enum Differ {
     /// The turns of this link at this place, counted from 1, in the link's log and in the node.
     Turn { link: u32, place: u64 },

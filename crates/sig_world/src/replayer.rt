@@ -38,7 +38,7 @@ pub struct Replayer {
 
 /// How a node's disk stands still: after how many of its calls, at most four, and what it rests with in each byte that isn't
 /// synced.
-#[derive(Clone, Copy, Debug)]
+#[derive(Clone, Copy)]
 pub(crate) struct Halt {
     pub(crate) calls: u64,
     pub(crate) fill: u8,

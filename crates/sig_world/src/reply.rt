@@ -3,7 +3,7 @@ use sig_terms::Token;
 use std::marker::Model;
 
 /// The receiver's answer to a message.
-#[derive(Debug, Drop)]
+#[derive(Drop)]
 pub struct Reply {
     message: Token,
     heard: Heard,
