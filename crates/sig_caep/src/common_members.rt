@@ -16,7 +16,7 @@ use sig_json::{
 use std::alloc::Global;
 
 /// The members that every event of CAEP may have (CAEP 1.0, section 2).
-#[derive(PartialEq, Eq, Drop)]
+#[derive(PartialEq, Eq)]
 pub struct Common {
     /// When the event happened, in whole seconds since 1970.
     pub event_timestamp: Option<i128>,
@@ -26,6 +26,19 @@ pub struct Common {
     pub reason_admin: Option<Text>,
     /// The reason for the end user, likewise.
     pub reason_user: Option<Text>,
+}
+
+impl Drop for Common {
+    fn drop(self) {
+        let Common {
+            event_timestamp: _,
+            initiating_entity: _,
+            reason_admin,
+            reason_user,
+        } = self;
+        drop(reason_admin);
+        drop(reason_user);
+    }
 }
 
 impl Common {

@@ -10,12 +10,20 @@ use sig_json::{Copied, Memory, PayloadFault, Same, value_named};
 use std::alloc::Global;
 
 /// An event of CAEP (CAEP 1.0, sections 2 and 3).
-#[derive(PartialEq, Eq, Drop)]
+#[derive(PartialEq, Eq)]
 pub struct CaepEvent {
     /// The members that every event may have.
     pub common: Common,
     /// The event by its type.
     pub kind: CaepKind,
+}
+
+impl Drop for CaepEvent {
+    fn drop(self) {
+        let CaepEvent { common, kind } = self;
+        drop(common);
+        drop(kind);
+    }
 }
 
 /// The event of CAEP that a payload says, by the name of its type. None exactly where no type has the name.

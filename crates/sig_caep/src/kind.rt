@@ -6,7 +6,7 @@ use sig_json::{Copied, Memory, Same, Text, copy_optional};
 use std::alloc::Global;
 
 /// An event of CAEP by its type, without the members that every type may have.
-#[derive(PartialEq, Eq, Drop)]
+#[derive(PartialEq, Eq)]
 pub enum CaepKind {
     /// The session was revoked (CAEP 1.0, section 3.1).
     SessionRevoked,
@@ -56,6 +56,46 @@ pub enum CaepKind {
         /// The fingerprint of the user agent.
         fp_ua: Option<Text>,
     },
+}
+
+impl Drop for CaepKind {
+    fn drop(self) {
+        match self {
+            CaepKind::SessionRevoked
+            | CaepKind::DeviceComplianceChange {
+                previous_status: _,
+                current_status: _,
+            } => {}
+            CaepKind::TokenClaimsChange { claims } => drop(claims),
+            CaepKind::CredentialChange {
+                credential_type,
+                change_type: _,
+            } => drop(credential_type),
+            CaepKind::AssuranceLevelChange {
+                namespace,
+                current_level,
+                change_direction: _,
+            } => {
+                drop(namespace);
+                drop(current_level);
+            }
+            CaepKind::SessionEstablished {
+                acr,
+                amr,
+                ext_id,
+                fp_ua,
+            } => {
+                drop(acr);
+                drop(amr);
+                drop(ext_id);
+                drop(fp_ua);
+            }
+            CaepKind::SessionPresented { ext_id, fp_ua } => {
+                drop(ext_id);
+                drop(fp_ua);
+            }
+        }
+    }
 }
 
 impl CaepKind {

@@ -9,7 +9,7 @@ use sig_risc::RiscEvent;
 use std::alloc::Global;
 
 /// A security event (RFC 8417, section 1.2).
-#[derive(PartialEq, Eq, Drop)]
+#[derive(PartialEq, Eq)]
 pub enum Event {
     /// An event of CAEP (CAEP 1.0, section 3).
     Caep(CaepEvent),
@@ -32,6 +32,18 @@ pub enum Event {
         /// The URI of its type.
         uri: Text,
     },
+}
+
+impl Drop for Event {
+    fn drop(self) {
+        match self {
+            Event::Caep(caep_event) => drop(caep_event),
+            Event::Risc(risc_event) => drop(risc_event),
+            Event::Verification { state } => drop(state),
+            Event::StreamUpdated { status: _, reason } => drop(reason),
+            Event::Other { uri } => drop(uri),
+        }
+    }
 }
 
 impl Event {

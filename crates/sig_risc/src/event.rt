@@ -6,7 +6,7 @@ use sig_json::{Copied, Memory, Same, Text, copy_optional};
 use std::alloc::Global;
 
 /// An event of RISC (RISC 1.0, section 2).
-#[derive(PartialEq, Eq, Drop)]
+#[derive(PartialEq, Eq)]
 pub enum RiscEvent {
     /// The account's credential has to be changed (section 2.1).
     CredentialChangeRequired,
@@ -45,6 +45,27 @@ pub enum RiscEvent {
     RecoveryInformationChanged,
     /// All sessions of the account were revoked (section 2.11).
     SessionsRevoked,
+}
+
+impl Drop for RiscEvent {
+    fn drop(self) {
+        match self {
+            RiscEvent::CredentialChangeRequired
+            | RiscEvent::AccountPurged
+            | RiscEvent::AccountEnabled
+            | RiscEvent::IdentifierRecycled
+            | RiscEvent::OptIn
+            | RiscEvent::OptOutInitiated
+            | RiscEvent::OptOutCancelled
+            | RiscEvent::OptOutEffective
+            | RiscEvent::RecoveryActivated
+            | RiscEvent::RecoveryInformationChanged
+            | RiscEvent::SessionsRevoked => {}
+            RiscEvent::AccountDisabled { reason } => drop(reason),
+            RiscEvent::IdentifierChanged { new_value } => drop(new_value),
+            RiscEvent::CredentialCompromise { credential_type } => drop(credential_type),
+        }
+    }
 }
 
 impl RiscEvent {

@@ -5,7 +5,7 @@ use std::alloc::Global;
 
 /// A subject identifier of one format without parts (RFC 9493, section 3.2; OpenID Shared Signals Framework 1.0,
 /// section 4). No text of a known format is empty.
-#[derive(PartialEq, Eq, Drop)]
+#[derive(PartialEq, Eq)]
 pub enum Plain {
     /// `account`: a URI that begins with `acct:` (RFC 9493, section 3.2.1).
     Account { uri: Text },
@@ -90,5 +90,34 @@ impl Copied for Plain {
 impl Same for Plain {
     fn same(&self, other: &Plain) -> bool {
         self == other
+    }
+}
+
+impl Drop for Plain {
+    fn drop(self) {
+        match self {
+            Plain::Account { uri: text }
+            | Plain::Email { email: text }
+            | Plain::Opaque { id: text }
+            | Plain::Phone { phone_number: text }
+            | Plain::Did { url: text }
+            | Plain::Uri { uri: text }
+            | Plain::Unknown { canon: text } => drop(text),
+            Plain::IssSub {
+                iss: one,
+                sub: other,
+            }
+            | Plain::JwtId {
+                iss: one,
+                jti: other,
+            }
+            | Plain::Saml {
+                issuer: one,
+                assertion_id: other,
+            } => {
+                drop(one);
+                drop(other);
+            }
+        }
     }
 }

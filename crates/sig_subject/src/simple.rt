@@ -5,7 +5,7 @@ use sig_json::{Copied, Items, Memory, Same, copy_items};
 use std::alloc::Global;
 
 /// A subject identifier that is no complex one.
-#[derive(PartialEq, Eq, Drop)]
+#[derive(PartialEq, Eq)]
 pub enum Simple {
     /// One identifier.
     Plain(Plain),
@@ -41,6 +41,15 @@ impl Same for Simple {
                 ones.same(twos)
             }
             _ => false,
+        }
+    }
+}
+
+impl Drop for Simple {
+    fn drop(self) {
+        match self {
+            Simple::Plain(plain) => drop(plain),
+            Simple::Aliases { identifiers } => drop(identifiers),
         }
     }
 }

@@ -5,7 +5,7 @@ use sig_json::{Copied, Items, Memory, Same, copy_items};
 use std::alloc::Global;
 
 /// Whom an event is about (RFC 9493; OpenID Shared Signals Framework 1.0, section 4).
-#[derive(PartialEq, Eq, Drop)]
+#[derive(PartialEq, Eq)]
 pub enum Subject {
     /// One identifier, or aliases.
     Simple(Simple),
@@ -41,6 +41,15 @@ impl Same for Subject {
                 ones.same(twos)
             }
             _ => false,
+        }
+    }
+}
+
+impl Drop for Subject {
+    fn drop(self) {
+        match self {
+            Subject::Simple(simple) => drop(simple),
+            Subject::Complex { members } => drop(members),
         }
     }
 }

@@ -8,7 +8,7 @@ use sig_json::{Copied, Items, Memory, Same, Text, copy_items};
 use std::alloc::Global;
 
 /// What the transmitter answers to a call.
-#[derive(PartialEq, Eq, Drop)]
+#[derive(PartialEq, Eq)]
 pub enum Answer {
     /// What the transmitter offers is told from its rules.
     Meta,
@@ -98,6 +98,44 @@ pub enum Answer {
         /// The bytes of the largest.
         size: u64,
     },
+}
+
+impl Drop for Answer {
+    fn drop(self) {
+        match self {
+            Answer::Meta
+            | Answer::Gone
+            | Answer::Added
+            | Answer::Removed
+            | Answer::Settled { count: _ }
+            | Answer::NotFound
+            | Answer::TooMany
+            | Answer::Conflict
+            | Answer::Disabled
+            | Answer::Early { until: _ }
+            | Answer::Long { size: _ } => {}
+            Answer::Made { conf } => drop(conf),
+            Answer::Conf { conf } => drop(conf),
+            Answer::Confs { confs } => drop(confs),
+            Answer::State {
+                stream,
+                status: _,
+                reason,
+                token: _,
+            } => {
+                drop(stream);
+                drop(reason);
+            }
+            Answer::Asked { stream, number: _ } => drop(stream),
+            Answer::Sets { tokens, more: _ } => drop(tokens),
+            Answer::Published {
+                store_id: _,
+                tokens,
+            } => drop(tokens),
+            Answer::Delivering { stream } => drop(stream),
+            Answer::Handed { tokens } => drop(tokens),
+        }
+    }
 }
 
 impl Answer {

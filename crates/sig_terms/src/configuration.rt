@@ -7,7 +7,7 @@ use std::alloc::Global;
 
 /// The configuration of a stream (Shared Signals Framework 1.0, section 8.1.1). Its issuer, audience, interval and
 /// default subjects are those that the transmitter had when the stream was made.
-#[derive(PartialEq, Eq, Drop)]
+#[derive(PartialEq, Eq)]
 pub struct StreamConf {
     /// The stream's name: its client's name, a hyphen, and its number among that client's streams, from 1.
     pub stream: Text,
@@ -25,6 +25,27 @@ pub struct StreamConf {
     pub defaults: Defaults,
     /// The receiver's own words for it.
     pub description: Option<Text>,
+}
+
+impl Drop for StreamConf {
+    fn drop(self) {
+        let StreamConf {
+            stream,
+            iss,
+            aud,
+            requested,
+            delivery,
+            interval: _,
+            defaults: _,
+            description,
+        } = self;
+        drop(stream);
+        drop(iss);
+        drop(aud);
+        drop(requested);
+        drop(delivery);
+        drop(description);
+    }
 }
 
 impl StreamConf {

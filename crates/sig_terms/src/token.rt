@@ -6,7 +6,7 @@ use sig_json::{Copied, Memory, Same, Text, copy_optional};
 use std::alloc::Global;
 
 /// A token that a stream owes.
-#[derive(PartialEq, Eq, Drop)]
+#[derive(PartialEq, Eq)]
 pub struct Token {
     /// The name of its stream.
     pub stream: Text,
@@ -18,6 +18,22 @@ pub struct Token {
     pub endpoint: Option<Endpoint>,
     /// The `authorization` field that it is sent with, where there is one.
     pub authorization: Option<Text>,
+}
+
+impl Drop for Token {
+    fn drop(self) {
+        let Token {
+            stream,
+            number: _,
+            claims,
+            endpoint,
+            authorization,
+        } = self;
+        drop(stream);
+        drop(claims);
+        drop(endpoint);
+        drop(authorization);
+    }
 }
 
 /// A token that a publication made.

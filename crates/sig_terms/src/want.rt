@@ -27,7 +27,7 @@ impl Same for Defaults {
 }
 
 /// How tokens reach a receiver (Shared Signals Framework 1.0, section 6.1).
-#[derive(PartialEq, Eq, Drop)]
+#[derive(PartialEq, Eq)]
 pub enum Delivery {
     /// The receiver asks for them (RFC 8936).
     Poll,
@@ -40,6 +40,23 @@ pub enum Delivery {
         /// The `authorization` field that each request has, where it has one.
         authorization: Option<Text>,
     },
+}
+
+impl Drop for Delivery {
+    fn drop(self) {
+        match self {
+            Delivery::Poll => {}
+            Delivery::Push {
+                endpoint,
+                url,
+                authorization,
+            } => {
+                drop(endpoint);
+                drop(url);
+                drop(authorization);
+            }
+        }
+    }
 }
 
 impl Delivery {
@@ -77,7 +94,7 @@ impl Same for Delivery {
 }
 
 /// What a receiver wants of a stream (Shared Signals Framework 1.0, section 8.1.1).
-#[derive(PartialEq, Eq, Drop)]
+#[derive(PartialEq, Eq)]
 pub struct Want {
     /// The URIs of the event types that it asks for; none given asks for all.
     pub requested: Option<Items<Text>>,
@@ -85,6 +102,19 @@ pub struct Want {
     pub delivery: Option<Delivery>,
     /// Its own words for the stream.
     pub description: Option<Text>,
+}
+
+impl Drop for Want {
+    fn drop(self) {
+        let Want {
+            requested,
+            delivery,
+            description,
+        } = self;
+        drop(requested);
+        drop(delivery);
+        drop(description);
+    }
 }
 
 impl Want {
