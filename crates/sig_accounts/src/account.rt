@@ -21,7 +21,6 @@ use std::marker::Model;
 
 /// A stream that stands, with the tokens that it owes. Contracts see it as its stream, what it owes in small, and the numbers
 /// of further tokens and of further subjects for which there is room.
-#[derive(Drop)]
 pub struct Account {
     number: u64,
     conf: StreamConf,
@@ -33,6 +32,27 @@ pub struct Account {
     asked: Option<u64>,
     made: u64,
     owed: Vec<Debt>,
+}
+
+impl Drop for Account {
+    fn drop(self) {
+        let Account {
+            number: _,
+            conf,
+            name,
+            status: _,
+            reason,
+            listed,
+            asked: _,
+            made: _,
+            owed,
+        } = self;
+        drop(conf);
+        drop(name);
+        drop(reason);
+        drop(listed);
+        drop(owed);
+    }
 }
 
 impl Model for Account {

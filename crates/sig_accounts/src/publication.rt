@@ -10,11 +10,19 @@ use std::alloc::Global;
 use std::marker::Model;
 
 /// A publication, with the tokens that it made, which hold no text each.
-#[derive(Drop)]
 pub struct Publication {
     id: Text,
     news: News,
     issued: Items<KeptToken>,
+}
+
+impl Drop for Publication {
+    fn drop(self) {
+        let Publication { id, news, issued } = self;
+        drop(id);
+        drop(news);
+        drop(issued);
+    }
 }
 
 impl Model for Publication {

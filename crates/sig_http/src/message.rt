@@ -4,7 +4,7 @@ use sig_json::{Bytes, Copied, Items, Memory, Text, copy_items, copy_optional};
 use std::alloc::Global;
 
 /// A request.
-#[derive(PartialEq, Drop)]
+#[derive(PartialEq)]
 pub struct Request {
     /// The method, a token (RFC 9110, section 9.1).
     pub method: Text,
@@ -20,6 +20,24 @@ pub struct Request {
     pub body: Bytes,
 }
 
+impl Drop for Request {
+    fn drop(self) {
+        let Request {
+            method,
+            path,
+            query,
+            bearer,
+            close: _,
+            body,
+        } = self;
+        drop(method);
+        drop(path);
+        drop(query);
+        drop(bearer);
+        drop(body);
+    }
+}
+
 /// A field of a response that is written.
 #[derive(PartialEq, Drop)]
 pub struct Header {
@@ -28,7 +46,7 @@ pub struct Header {
 }
 
 /// A response.
-#[derive(PartialEq, Drop)]
+#[derive(PartialEq)]
 pub struct Response {
     /// The status code (RFC 9110, section 15).
     pub status: u16,
@@ -38,6 +56,19 @@ pub struct Response {
     /// The link closes after the response.
     pub close: bool,
     pub body: Bytes,
+}
+
+impl Drop for Response {
+    fn drop(self) {
+        let Response {
+            status: _,
+            headers,
+            close: _,
+            body,
+        } = self;
+        drop(headers);
+        drop(body);
+    }
 }
 
 /// What a reader of requests gives.

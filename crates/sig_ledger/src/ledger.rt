@@ -18,7 +18,6 @@ use std::marker::Model;
 /// A transmitter's streams, what each owes, and all that was published. It keeps its allocator.
 ///
 /// Contracts see its books and its room.
-#[derive(Drop)]
 pub struct Ledger {
     alloc: Global,
     store_id: [u8; 16],
@@ -27,6 +26,23 @@ pub struct Ledger {
     published: Vec<Publication>,
     // The place of the first publication of each id.
     places: IndexMap<Text, usize>,
+}
+
+impl Drop for Ledger {
+    fn drop(self) {
+        let Ledger {
+            alloc: _,
+            store_id: _,
+            accounts,
+            created,
+            published,
+            places,
+        } = self;
+        drop(accounts);
+        drop(created);
+        drop(published);
+        drop(places);
+    }
 }
 
 impl Model for Ledger {

@@ -10,11 +10,23 @@ use std::marker::Model;
 
 /// Places under keys, in the order in which they were put. Contracts see the list of them, and for how many more there is
 /// room.
-#[derive(Drop)]
 pub struct Places {
     newest: IndexMap<u64, usize>,
     entries: Vec<Entry>,
     links: Vec<Link>,
+}
+
+impl Drop for Places {
+    fn drop(self) {
+        let Places {
+            newest,
+            entries,
+            links,
+        } = self;
+        drop(newest);
+        drop(entries);
+        drop(links);
+    }
 }
 
 impl Model for Places {

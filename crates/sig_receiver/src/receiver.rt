@@ -13,12 +13,25 @@ use std::marker::Model;
 
 /// What a receiver keeps of its journal: which tokens it took, and the session table that they made. Contracts see the
 /// pairs, the rows, and for how many more there is room. Beside these it keeps the header that was judged last.
-#[derive(Drop)]
 pub struct Receiver {
     alloc: Global,
     seen: Seen,
     table: Table,
     last: LastHeader,
+}
+
+impl Drop for Receiver {
+    fn drop(self) {
+        let Receiver {
+            alloc: _,
+            seen,
+            table,
+            last,
+        } = self;
+        drop(seen);
+        drop(table);
+        drop(last);
+    }
 }
 
 impl Model for Receiver {

@@ -16,7 +16,7 @@ pub struct Principal {
 }
 
 /// A transmitter whose tokens are fetched.
-#[derive(PartialEq, Drop)]
+#[derive(PartialEq)]
 pub struct Peer {
     /// Where it is polled.
     pub endpoint: Endpoint,
@@ -28,8 +28,23 @@ pub struct Peer {
     pub iss: Text,
 }
 
+impl Drop for Peer {
+    fn drop(self) {
+        let Peer {
+            endpoint,
+            gateway,
+            bearer,
+            iss,
+        } = self;
+        drop(endpoint);
+        drop(gateway);
+        drop(bearer);
+        drop(iss);
+    }
+}
+
 /// The settings of a receiver.
-#[derive(PartialEq, Drop)]
+#[derive(PartialEq)]
 pub struct RxRules {
     /// Whom it trusts.
     pub trust: Trust,
@@ -39,6 +54,21 @@ pub struct RxRules {
     pub reader: Text,
     /// Of whom tokens are fetched.
     pub peer: Option<Peer>,
+}
+
+impl Drop for RxRules {
+    fn drop(self) {
+        let RxRules {
+            trust,
+            principals,
+            reader,
+            peer,
+        } = self;
+        drop(trust);
+        drop(principals);
+        drop(reader);
+        drop(peer);
+    }
 }
 
 impl Principal {

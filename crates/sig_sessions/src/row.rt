@@ -10,7 +10,7 @@ use sig_subject::Subject;
 use std::alloc::Global;
 
 /// A row of the session table: a subject, and what is known of it.
-#[derive(PartialEq, Drop)]
+#[derive(PartialEq)]
 pub struct Row {
     /// Whom it is about.
     pub subject: Subject,
@@ -28,6 +28,23 @@ pub struct Row {
     pub opt: Opt,
     /// Its assurance level, where one was told (CAEP 1.0, section 3.4).
     pub level: Option<Text>,
+}
+
+impl Drop for Row {
+    fn drop(self) {
+        let Row {
+            subject,
+            session: _,
+            account: _,
+            device: _,
+            reset: _,
+            stale: _,
+            opt: _,
+            level,
+        } = self;
+        drop(subject);
+        drop(level);
+    }
 }
 
 impl Row {

@@ -13,12 +13,23 @@ use std::alloc::Global;
 use std::marker::Model;
 
 /// The session table: rows in order of first mention, no two of them of identical subjects.
-#[derive(Drop)]
 pub struct Table {
     alloc: Global,
     rows: Vec<Row>,
     // Where the rows stand, under the keys of their subjects.
     places: Places,
+}
+
+impl Drop for Table {
+    fn drop(self) {
+        let Table {
+            alloc: _,
+            rows,
+            places,
+        } = self;
+        drop(rows);
+        drop(places);
+    }
 }
 
 impl Model for Table {

@@ -9,10 +9,17 @@ use std::alloc::Global;
 use std::marker::Model;
 
 /// An issuer whose keys are prepared. Contracts see the issuer.
-#[derive(Drop)]
 pub struct PreparedIssuer {
     iss: Text,
     keys: Items<PreparedKey>,
+}
+
+impl Drop for PreparedIssuer {
+    fn drop(self) {
+        let PreparedIssuer { iss, keys } = self;
+        drop(iss);
+        drop(keys);
+    }
 }
 
 impl Model for PreparedIssuer {
@@ -50,10 +57,17 @@ impl PreparedIssuer {
 }
 
 /// A trust whose keys are prepared, for a judgement of many tokens. Contracts see the trust.
-#[derive(Drop)]
 pub struct PreparedTrust {
     audience: Text,
     issuers: Items<PreparedIssuer>,
+}
+
+impl Drop for PreparedTrust {
+    fn drop(self) {
+        let PreparedTrust { audience, issuers } = self;
+        drop(audience);
+        drop(issuers);
+    }
 }
 
 impl Model for PreparedTrust {

@@ -5,7 +5,7 @@ use sig_jws::Key;
 use std::alloc::Global;
 
 /// An issuer whose tokens are taken, with the keys that it signs with.
-#[derive(PartialEq, Drop)]
+#[derive(PartialEq)]
 pub struct Issuer {
     /// Its name, compared byte for byte with a token's `iss`.
     pub iss: Text,
@@ -13,13 +13,29 @@ pub struct Issuer {
     pub keys: Items<Key>,
 }
 
+impl Drop for Issuer {
+    fn drop(self) {
+        let Issuer { iss, keys } = self;
+        drop(iss);
+        drop(keys);
+    }
+}
+
 /// Whom a receiver trusts.
-#[derive(PartialEq, Drop)]
+#[derive(PartialEq)]
 pub struct Trust {
     /// The receiver's own name, which a token's `aud` has to have.
     pub audience: Text,
     /// The issuers whose tokens it takes; of those with one name the first counts.
     pub issuers: Items<Issuer>,
+}
+
+impl Drop for Trust {
+    fn drop(self) {
+        let Trust { audience, issuers } = self;
+        drop(audience);
+        drop(issuers);
+    }
 }
 
 impl Issuer {

@@ -7,7 +7,7 @@ use sig_outside::Place;
 use std::alloc::Global;
 
 /// A client of the transmitter: a receiver that may have streams.
-#[derive(PartialEq, Drop)]
+#[derive(PartialEq)]
 pub struct Client {
     /// Its name, 1 to 32 of `a-z` and `0-9`.
     pub name: Text,
@@ -15,6 +15,15 @@ pub struct Client {
     pub bearer: Text,
     /// Whom its tokens are for.
     pub aud: Items<Text>,
+}
+
+impl Drop for Client {
+    fn drop(self) {
+        let Client { name, bearer, aud } = self;
+        drop(name);
+        drop(bearer);
+        drop(aud);
+    }
 }
 
 impl Client {
@@ -37,7 +46,7 @@ impl Copied for Client {
 }
 
 /// The settings of a transmitter.
-#[derive(PartialEq, Drop)]
+#[derive(PartialEq)]
 pub struct Rules {
     /// Who makes the tokens.
     pub issuer: Text,
@@ -55,6 +64,27 @@ pub struct Rules {
     pub clients: Items<Client>,
     /// The key that it signs with.
     pub key: Key,
+}
+
+impl Drop for Rules {
+    fn drop(self) {
+        let Rules {
+            issuer,
+            base,
+            defaults: _,
+            interval: _,
+            gateway,
+            operator,
+            clients,
+            key,
+        } = self;
+        drop(issuer);
+        drop(base);
+        drop(gateway);
+        drop(operator);
+        drop(clients);
+        drop(key);
+    }
 }
 
 impl Rules {
