@@ -9,7 +9,7 @@ use sig_subject::Subject;
 use std::alloc::Global;
 
 /// A call at the transmitter.
-#[derive(PartialEq, Eq, Drop)]
+#[derive(PartialEq, Eq)]
 pub enum Call {
     /// Somebody reads what the transmitter offers (Shared Signals Framework 1.0, section 7.1).
     Metadata,
@@ -146,6 +146,117 @@ pub enum Call {
         /// What became of it.
         outcome: Outcome,
     },
+}
+
+impl Drop for Call {
+    fn drop(self) {
+        match self {
+            Call::Metadata => {}
+            Call::Create { client, want } => {
+                drop(client);
+                drop(want);
+            }
+            Call::ReadAll { client } => drop(client),
+            Call::Read { client, stream } => {
+                drop(client);
+                drop(stream);
+            }
+            Call::Patch {
+                client,
+                stream,
+                want,
+            } => {
+                drop(client);
+                drop(stream);
+                drop(want);
+            }
+            Call::Put {
+                client,
+                stream,
+                want,
+            } => {
+                drop(client);
+                drop(stream);
+                drop(want);
+            }
+            Call::Delete { client, stream } => {
+                drop(client);
+                drop(stream);
+            }
+            Call::GetStatus { client, stream } => {
+                drop(client);
+                drop(stream);
+            }
+            Call::SetStatus {
+                client,
+                stream,
+                status: _,
+                reason,
+            } => {
+                drop(client);
+                drop(stream);
+                drop(reason);
+            }
+            Call::Add {
+                client,
+                stream,
+                subject,
+            } => {
+                drop(client);
+                drop(stream);
+                drop(subject);
+            }
+            Call::Remove {
+                client,
+                stream,
+                subject,
+            } => {
+                drop(client);
+                drop(stream);
+                drop(subject);
+            }
+            Call::Verify {
+                client,
+                stream,
+                state,
+            } => {
+                drop(client);
+                drop(stream);
+                drop(state);
+            }
+            Call::Poll {
+                client,
+                stream,
+                ask,
+            } => {
+                drop(client);
+                drop(stream);
+                drop(ask);
+            }
+            Call::Publish { id, news } => {
+                drop(id);
+                drop(news);
+            }
+            Call::OperatorStatus {
+                stream,
+                status: _,
+                reason,
+            } => {
+                drop(stream);
+                drop(reason);
+            }
+            Call::Deliver { stream } => drop(stream),
+            Call::Hand { streams } => drop(streams),
+            Call::Settle {
+                stream,
+                number: _,
+                outcome,
+            } => {
+                drop(stream);
+                drop(outcome);
+            }
+        }
+    }
 }
 
 /// What a poll asks and tells (RFC 8936, section 2.4).
