@@ -158,23 +158,18 @@ pub fn conf_in(alloc: Global, case: &Value) -> Result<Option<StreamConf>, Memory
     let Some(aud) = texts_in(alloc, aud.as_slice())? else {
         return Ok(None);
     };
-    let Some(want) = want_in(alloc, case)? else {
+    let Some(mut want) = want_in(alloc, case)? else {
         return Ok(None);
     };
-    let Want {
-        requested,
-        delivery,
-        description,
-    } = want;
     Ok(Some(StreamConf {
         stream: Text::of(alloc, stream)?,
         iss: Text::of(alloc, iss)?,
         aud,
-        requested,
-        delivery: delivery.unwrap_or(Delivery::Poll),
+        requested: want.requested.take(),
+        delivery: want.delivery.take().unwrap_or(Delivery::Poll),
         interval,
         defaults: Defaults::All,
-        description,
+        description: want.description.take(),
     }))
 }
 

@@ -40,12 +40,10 @@ pub fn with_gateway(peer: Option<Peer>, gateway: Option<Place>) -> Option<Peer>
     ensures { result ≡ spec.with_gateway gateway peer }
 {
     match peer {
-        Some(peer) if peer.endpoint.secure => Some(Peer {
-            endpoint: peer.endpoint,
-            gateway,
-            bearer: peer.bearer,
-            iss: peer.iss,
-        }),
+        Some(mut peer) if peer.endpoint.secure => {
+            peer.gateway = gateway;
+            Some(peer)
+        }
         peer => peer,
     }
 }
