@@ -44,7 +44,7 @@ use std::process::ExitCode;
 use std::{env, io};
 
 /// Why a run stopped.
-#[derive(Clone, Copy, PartialEq, Eq)]
+#[derive(Clone, Copy, Debug, PartialEq, Eq)]
 pub enum Stopped {
     /// The words are those of no run.
     Words,
