@@ -16,6 +16,7 @@ use sig_receiver::Heard;
 use sig_set::Code;
 use sig_terms::{Answer, Call, Outcome, Token};
 use std::alloc::Global;
+use std::mem::replace;
 
 impl Replayer {
     ghost use Rattle.std.specs.Prelude.{◌≡◌, ◌≤◌, ◌++◌, IfErr, OnOk, length};
@@ -87,7 +88,7 @@ impl Replayer {
     {
         let before = self.messages.len() as u64;
         add_call(self.alloc, text, number, before, &answer)?;
-        keep_handed(&mut self.messages, answer)
+        keep_handed(self.alloc, &mut self.messages, answer)
     }
 
     /// An answer reaches the transmitter while its disk stands still.
@@ -168,14 +169,21 @@ impl Replayer {
 }
 
 // Keeps the tokens that an answer hands out.
-fn keep_handed(messages: &mut Vec<Token>, answer: Answer) -> Result<(), Memory>
+fn keep_handed(alloc: Global, messages: &mut Vec<Token>, mut answer: Answer) -> Result<(), Memory>
     ensures { OnOk result (messages.new.items ≡ messages.old.items ++ handed_by answer) }
 {
-    match answer {
-        Answer::Sets { tokens, more: _ } => keep(messages, tokens),
-        Answer::Handed { tokens } => keep(messages, tokens),
+    match &mut answer {
+        Answer::Sets { tokens, more: _ } => keep(messages, moved_out(alloc, tokens)),
+        Answer::Handed { tokens } => keep(messages, moved_out(alloc, tokens)),
         _ => Ok(()),
     }
+}
+
+// The tokens, of which none stays behind.
+fn moved_out(alloc: Global, tokens: &mut Items<Token>) -> Items<Token>
+    ensures { result ≡ tokens.old }
+{
+    replace(tokens, Items::of(Vec::new(alloc)))
 }
 
 fn keep(messages: &mut Vec<Token>, tokens: Items<Token>) -> Result<(), Memory>
