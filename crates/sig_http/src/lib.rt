@@ -39,6 +39,3 @@ pub use message::{Got, Header, Request, Response};
 pub use query::query_value;
 pub use reading::{read_request, read_response};
 pub use writing::{write_request, write_response};
-
-#[cfg(test)]
-mod tests;

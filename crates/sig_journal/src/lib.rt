@@ -33,8 +33,6 @@ mod loading;
 mod making;
 mod reading;
 mod records;
-#[cfg(test)]
-mod tests;
 
 pub use fault::LoadFault;
 pub use framed::{Framed, frame};
