@@ -16,8 +16,6 @@ mod facts;
 pub mod laws;
 mod news;
 mod streams;
-#[cfg(test)]
-mod tests;
 mod threads;
 mod token;
 

@@ -28,8 +28,6 @@ pub mod laws;
 mod operator;
 mod route;
 mod routing;
-#[cfg(test)]
-mod tests;
 mod threads;
 
 pub use answering::response_of;
