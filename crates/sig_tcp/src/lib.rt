@@ -20,8 +20,6 @@ mod system_outside;
 mod tcp_door;
 mod tcp_link;
 mod tcp_side;
-#[cfg(test)]
-mod tests;
 
 pub use outside_fault::OutsideFault;
 pub use system_outside::SystemOutside;

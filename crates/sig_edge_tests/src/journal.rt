@@ -2,11 +2,10 @@
 
 ghost use Rattle.std.specs.Prelude.{◌≡◌, false};
 
-use crate::calls::{no_calls, one_call};
 use sig_journal::{
     Framed, GATE_OPEN, Journal, Kind, LoadFault, LoadRefused, Loaded, MakeFault, frame, load, make,
 };
-use sig_json::{Bytes, Memory};
+use sig_json::{Bytes, Items, Memory};
 use sig_outside::{Disk, MemDisk};
 use std::alloc::Global;
 use std::test::Fail;
@@ -30,13 +29,13 @@ enum Outcome {
     Memory,
 }
 
-fn disk(alloc: Global, bytes: &[u8]) -> Result<MemDisk, Memory> {
-    Ok(MemDisk::new(alloc, Bytes::of(alloc, bytes)?, no_calls(alloc)))
-}
-
-// A disk of which this call fails.
-fn failing_disk(alloc: Global, bytes: &[u8], call: u64) -> Result<MemDisk, Memory> {
-    Ok(MemDisk::new(alloc, Bytes::of(alloc, bytes)?, one_call(alloc, call)?))
+// A disk with these bytes. One of its calls may be set to fail.
+fn disk(alloc: Global, bytes: &[u8], failing: Option<u64>) -> Result<MemDisk, Memory> {
+    let mut calls = Vec::new(alloc);
+    if let Some(call) = failing {
+        calls.push(call)?;
+    }
+    Ok(MemDisk::new(alloc, Bytes::of(alloc, bytes)?, Items::of(calls)))
 }
 
 // The journal of a store, and the number of the file in force.
@@ -79,13 +78,13 @@ fn loaded_as<D: Disk + Drop>(alloc: Global, a: D, b: D) -> Outcome {
 
 // What loading files with these bytes gives.
 fn outcome_of(alloc: Global, a: &[u8], b: &[u8]) -> Result<Outcome, Memory> {
-    Ok(loaded_as(alloc, disk(alloc, a)?, disk(alloc, b)?))
+    Ok(loaded_as(alloc, disk(alloc, a, None)?, disk(alloc, b, None)?))
 }
 
 // Whether an empty store is made of empty files, and of those no other.
 fn is_made_once(alloc: Global) -> Result<bool, Memory> {
-    let mut a = disk(alloc, b"")?;
-    let mut b = disk(alloc, b"")?;
+    let mut a = disk(alloc, b"", None)?;
+    let mut b = disk(alloc, b"", None)?;
     let first = make(&mut a, &mut b, Kind::Tx, STORE_ID);
     let second = make(&mut a, &mut b, Kind::Tx, STORE_ID);
     let is_empty = a.image()?.as_slice() == EMPTY.as_slice();
@@ -210,28 +209,52 @@ fn append<D: Disk>(
     }
 }
 
-// The end that is answered where a record of 11 bytes is added to the empty store, and what loading gives after that.
-fn stopped(alloc: Global, calls: u64, fill: u8) -> Result<(Option<u64>, Outcome), Memory> {
-    let framed = frame(alloc, b"\x06\x00\x00\x00\x06acme-1".as_slice())?;
-    let files = (disk(alloc, &EMPTY)?, disk(alloc, b"\0")?);
-    let (end, a, b) = append(alloc, files, &framed, calls, fill);
-    let told = outcome_of(alloc, a.image()?.as_slice(), b.image()?.as_slice())?;
-    Ok((end, told))
+// What loading gives of what two disks rest with.
+fn rested(alloc: Global, a: &MemDisk, b: &MemDisk) -> Result<Outcome, Memory> {
+    outcome_of(alloc, a.image()?.as_slice(), b.image()?.as_slice())
+}
+
+// The end that is answered where a record is added to the empty store, and what loading gives after that.
+fn stopped(
+    alloc: Global,
+    framed: &Framed,
+    calls: u64,
+    fill: u8,
+) -> Result<(Option<u64>, Outcome), Memory> {
+    let files = (disk(alloc, &EMPTY, None)?, disk(alloc, b"\0", None)?);
+    let (end, a, b) = append(alloc, files, framed, calls, fill);
+    Ok((end, rested(alloc, &a, &b)?))
+}
+
+// A record of 11 bytes.
+fn deletion(alloc: Global) -> Result<Framed, Memory> {
+    frame(alloc, b"\x06\x00\x00\x00\x06acme-1".as_slice())
+}
+
+// Whether a stop leaves the record exactly where the gate before it is open then.
+fn is_there_or_not(alloc: Global, calls: u64, fill: u8) -> Result<bool, Memory> {
+    let framed = deletion(alloc)?;
+    let records = u64::from(calls == 3 && fill == GATE_OPEN);
+    Ok(stopped(alloc, &framed, calls, fill)? == (None, Outcome::Held { file: 0, records }))
 }
 
 #[test]
 fn a_stop_leaves_the_record_or_not(rt: HostRuntime) -> Result<(), Fail> {
     for calls in 0..4u64 {
         for fill in [0x00, GATE_OPEN, 0xff] {
-            let records = u64::from(calls == 3 && fill == GATE_OPEN);
-            let told = (None, Outcome::Held { file: 0, records });
             assert!(rt;
-                stopped(rt.alloc(), calls, fill)? == told,
+                is_there_or_not(rt.alloc(), calls, fill)?,
                 "{calls} calls, {fill}"
             );
         }
     }
     Ok(())
+}
+
+// What comes of the append where its four calls are made.
+fn done(alloc: Global) -> Result<(Option<u64>, Outcome), Memory> {
+    let framed = deletion(alloc)?;
+    stopped(alloc, &framed, 4, 0)
 }
 
 #[test]
@@ -240,14 +263,14 @@ fn a_record_that_is_answered_is_there(rt: HostRuntime) -> Result<(), Fail> {
         file: 0,
         records: 1,
     };
-    assert!(rt; stopped(rt.alloc(), 4, 0)? == (Some(52), held));
+    assert!(rt; done(rt.alloc())? == (Some(52), held));
     Ok(())
 }
 
 // What loading gives where a call of the first disk fails.
 fn failing(alloc: Global, call: u64) -> Result<Outcome, Memory> {
-    let first = failing_disk(alloc, &EMPTY, call)?;
-    Ok(loaded_as(alloc, first, disk(alloc, b"\0")?))
+    let first = disk(alloc, &EMPTY, Some(call))?;
+    Ok(loaded_as(alloc, first, disk(alloc, b"\0", None)?))
 }
 
 #[test]
