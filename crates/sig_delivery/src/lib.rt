@@ -27,8 +27,6 @@ mod push;
 mod sets;
 mod sets_writing;
 mod signing;
-#[cfg(test)]
-mod tests;
 mod threads;
 
 pub use ask::read_ask;

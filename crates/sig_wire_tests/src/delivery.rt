@@ -1,18 +1,17 @@
-//! Each public call that may want memory, once. The tokens are those of an independent signer, by Python's hmac, base64 and
-//! json; bodies that are read stand in `tools/cases/delivery.txt`.
+//! Each call that allocates and that no line of the cases makes, once. The tokens are those of an independent signer, by
+//! Python's hmac, base64 and json.
 
 ghost use Rattle.std.specs.Prelude.{IfOk, IsSome};
 
-use crate::{
-    Outcome, PollAsk, Reported, Token, coded, outcome_of, push_request, read_ask, read_sets,
-    write_ask, write_sets,
+use sig_delivery::{
+    BodyFault, Endpoint, PollAsk, Reported, Token, coded, push_request, read_sets, write_ask,
+    write_sets,
 };
-use sig_http::{Header, Response};
+use sig_http::{Header, Request};
 use sig_json::{Bytes, Items, Memory, Same, Text};
 use sig_jws::Key;
 use sig_outside::Place;
 use sig_set::{ClaimsFault, Code, Spot, claims_of};
-use sig_terms::Endpoint;
 use std::alloc::Global;
 use std::test::Fail;
 
@@ -47,9 +46,9 @@ fn token(alloc: Global, text: &str, number: u64) -> Result<Token, ClaimsFault>
     Ok(Token {
         stream: Text::of(alloc, "acme-1")?,
         number,
-        claims: claims_of(alloc, text.as_bytes())?,
         endpoint: Some(endpoint(alloc)?),
         authorization: Some(Text::of(alloc, "Basic cnA6eA==")?),
+        claims: claims_of(alloc, text.as_bytes())?,
     })
 }
 
@@ -59,6 +58,34 @@ fn tokens(alloc: Global) -> Result<Items<Token>, ClaimsFault> {
     tokens.push(token(alloc, SECOND, 2)?)?;
     tokens.push(token(alloc, TENTH, 10)?)?;
     Ok(Items::of(tokens))
+}
+
+fn written_sets(alloc: Global) -> Result<Bytes, ClaimsFault> {
+    let key = key(alloc)?;
+    let tokens = tokens(alloc)?;
+    Ok(write_sets(alloc, &tokens, true, &key)?)
+}
+
+#[test]
+fn sets_are_written_in_order(rt: HostRuntime) -> Result<(), Fail> {
+    let store = "6ba7b810-9dad-11d1-80b4-00c04fd430c8";
+    let wanted = format!(in rt.alloc();
+        "{{\"moreAvailable\":true,\"sets\":{{\"{store}.acme-1.10\":\"{TENTH}\",\"{store}.acme-1.2\":\"{SECOND}\"}}}}"
+    )?;
+    assert!(rt; written_sets(rt.alloc())?.as_slice() == wanted.as_bytes());
+    Ok(())
+}
+
+// Whether what is read of a response with one token equals its copy.
+fn are_sets_copied(alloc: Global) -> Result<bool, BodyFault> {
+    let sets = read_sets(alloc, br#"{"moreAvailable":true,"sets":{"s.1":"a.b.c"}}"#)?;
+    Ok(sets.copy(alloc)?.same(&sets))
+}
+
+#[test]
+fn sets_are_copied(rt: HostRuntime) -> Result<(), Fail> {
+    assert!(rt; are_sets_copied(rt.alloc())?);
+    Ok(())
 }
 
 fn ask(alloc: Global) -> Result<PollAsk, Memory> {
@@ -76,84 +103,47 @@ fn ask(alloc: Global) -> Result<PollAsk, Memory> {
     })
 }
 
+fn written_ask(alloc: Global) -> Result<Bytes, Memory> {
+    let ask = ask(alloc)?;
+    write_ask(alloc, &ask)
+}
+
 // RFC 8936, section 2.4.4, with the members in byte order.
 #[test]
-fn an_ask_is_written_and_read(rt: HostRuntime) -> Result<(), Fail> {
-    let alloc = rt.alloc();
-    let ask = ask(alloc)?;
-    let text = write_ask(alloc, &ask)?;
+fn an_ask_is_written(rt: HostRuntime) -> Result<(), Fail> {
     let wanted =
         r#"{"ack":["s.1"],"maxEvents":32,"returnImmediately":true,"setErrs":{"s.2":{"description":"invalid_key","err":"invalid_key"}}}"#;
-    assert!(rt; text.as_slice() == wanted.as_bytes());
-    assert!(rt; read_ask(alloc, text.as_slice())?.same(&ask));
+    assert!(rt; written_ask(rt.alloc())?.as_slice() == wanted.as_bytes());
     Ok(())
 }
 
-#[test]
-fn sets_are_written_in_order_and_read(rt: HostRuntime) -> Result<(), Fail> {
-    let alloc = rt.alloc();
-    let store = "6ba7b810-9dad-11d1-80b4-00c04fd430c8";
-    let text = write_sets(alloc, &tokens(alloc)?, true, &key(alloc)?)?;
-    let wanted = format!(in alloc;
-        "{{\"moreAvailable\":true,\"sets\":{{\"{store}.acme-1.10\":\"{TENTH}\",\"{store}.acme-1.2\":\"{SECOND}\"}}}}"
-    )?;
-    assert!(rt; text.as_slice() == wanted.as_bytes());
-    let sets = read_sets(alloc, text.as_slice())?.copy(alloc)?;
-    assert!(rt; sets.more);
-    assert!(rt; sets.tokens.as_slice().len() == 2);
-    assert!(rt; sets.tokens.as_slice()[1].text.as_slice() == SECOND.as_bytes());
-    Ok(())
+fn push(alloc: Global) -> Result<Request, ClaimsFault> {
+    let key = key(alloc)?;
+    let token = token(alloc, SECOND, 2)?;
+    Ok(push_request(alloc, &token, &key)?)
 }
 
 #[test]
 fn a_push_has_the_token_and_the_authorization(rt: HostRuntime) -> Result<(), Fail> {
-    let alloc = rt.alloc();
-    let request = push_request(alloc, &token(alloc, SECOND, 2)?, &key(alloc)?)?;
-    assert!(rt; request.path == Text::of(alloc, "/events")?);
-    assert!(rt; request.bearer == Some(Text::of(alloc, "Basic cnA6eA==")?));
+    let request = push(rt.alloc())?;
+    assert!(rt; request.path.as_str() == "/events");
+    assert!(rt; request.bearer == Some(Text::of(rt.alloc(), "Basic cnA6eA==")?));
     assert!(rt; request.body.as_slice() == SECOND.as_bytes());
     Ok(())
 }
 
-fn settled(alloc: Global, status: u16, body: &[u8]) -> Result<Outcome, Memory> {
-    let response = Response {
-        status,
-        headers: Items::of(Vec::new(alloc)),
-        close: false,
-        body: Bytes::of(alloc, body)?,
-    };
-    outcome_of(alloc, &response)
-}
-
-#[test]
-fn a_response_settles_a_push_by_status_and_code(rt: HostRuntime) -> Result<(), Fail> {
-    let alloc = rt.alloc();
-    let reported = Outcome::Reported {
-        code: Text::of(alloc, "invalid_key")?,
-    };
-    assert!(rt; settled(alloc, 202, b"")? == Outcome::Accepted);
-    assert!(rt;
-        settled(
-            alloc,
-            400,
-            b"{\"err\":\"invalid_key\",\"description\":\"kid\"}"
-        )? == reported
-    );
-    assert!(rt; settled(alloc, 400, b"{\"err\":\"access_denied\"}")? == Outcome::Keep);
-    assert!(rt; settled(alloc, 400, b"")? == Outcome::Keep);
-    assert!(rt; settled(alloc, 503, b"")? == Outcome::Keep);
-    Ok(())
+fn english(alloc: Global) -> Result<Header, Memory> {
+    Ok(Header {
+        name: Text::of(alloc, "content-language")?,
+        value: Text::of(alloc, "en")?,
+    })
 }
 
 // RFC 8935, section 2.3.
 #[test]
 fn a_refusal_says_its_code_in_english(rt: HostRuntime) -> Result<(), Fail> {
-    let alloc = rt.alloc();
-    let response = coded(alloc, &Code::InvalidRequest, &Spot::Typ)?;
-    let language = Header {
-        name: Text::of(alloc, "content-language")?,
-        value: Text::of(alloc, "en")?,
-    };
+    let language = english(rt.alloc())?;
+    let response = coded(rt.alloc(), &Code::InvalidRequest, &Spot::Typ)?;
     assert!(rt; response.status == 400);
     assert!(rt; response.headers.as_slice().contains(&language));
     let wanted = r#"{"description":"typ","err":"invalid_request"}"#;
