@@ -23,8 +23,6 @@ mod opening;
 mod prepared;
 mod reading;
 mod refusal;
-#[cfg(test)]
-mod tests;
 mod threads;
 mod trust;
 mod values;
