@@ -6,6 +6,8 @@
 #![tactic(auto)]
 
 #[cfg(test)]
+mod receiver;
+#[cfg(test)]
 mod set;
 #[cfg(test)]
 mod tokens;

@@ -18,8 +18,6 @@ pub mod laws;
 mod printing;
 mod receiver;
 mod take_fault;
-#[cfg(test)]
-mod tests;
 mod threads;
 
 pub use heard::Heard;
