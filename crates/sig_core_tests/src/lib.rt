@@ -10,4 +10,6 @@ mod receiver;
 #[cfg(test)]
 mod set;
 #[cfg(test)]
+mod settings;
+#[cfg(test)]
 mod tokens;

@@ -11,8 +11,6 @@ mod issuer;
 mod peer;
 mod principal;
 mod settings;
-#[cfg(test)]
-mod tests;
 mod threads;
 
 pub use settings::{RxSettings, rx_settings};

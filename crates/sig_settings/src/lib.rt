@@ -17,8 +17,6 @@ mod listing;
 mod member;
 mod object;
 mod place;
-#[cfg(test)]
-mod tests;
 mod text;
 mod threads;
 

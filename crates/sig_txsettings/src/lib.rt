@@ -9,8 +9,6 @@
 
 mod client;
 mod settings;
-#[cfg(test)]
-mod tests;
 mod threads;
 mod value;
 
