@@ -6,6 +6,8 @@
 #![tactic(auto)]
 
 #[cfg(test)]
+mod outbox;
+#[cfg(test)]
 mod receiver;
 #[cfg(test)]
 mod set;

@@ -15,8 +15,6 @@
 mod applying;
 mod dispatch;
 mod outbox;
-#[cfg(test)]
-mod tests;
 mod threads;
 
 pub use applying::ApplyFault;
