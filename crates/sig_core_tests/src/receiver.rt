@@ -14,11 +14,15 @@ fn heard(alloc: Global, receiver: &mut Receiver, iss: &str, token: &str) -> Resu
 }
 
 // Whether the tokens of both issuers are accepted, which have one identifier.
+fn hears_both(alloc: Global, receiver: &mut Receiver) -> Result<bool, Memory> {
+    let one = heard(alloc, receiver, ISSUER, TOKEN)?;
+    let other = heard(alloc, receiver, OTHER, OTHER_TOKEN)?;
+    Ok(one == Heard::Accepted && other == Heard::Accepted)
+}
+
 fn are_accepted(alloc: Global) -> Result<bool, Memory> {
     let mut receiver = Receiver::new(alloc);
-    let one = heard(alloc, &mut receiver, ISSUER, TOKEN)?;
-    let other = heard(alloc, &mut receiver, OTHER, OTHER_TOKEN)?;
-    Ok(one == Heard::Accepted && other == Heard::Accepted)
+    hears_both(alloc, &mut receiver)
 }
 
 #[test]
@@ -27,10 +31,13 @@ fn an_identifier_is_known_under_its_issuer(rt: HostRuntime) -> Result<(), Fail> 
     Ok(())
 }
 
+fn taken_up(alloc: Global, text: &[u8]) -> Result<(), TakeFault> {
+    let mut receiver = Receiver::new(alloc);
+    receiver.take_up(text)
+}
+
 #[test]
 fn a_text_that_is_no_token_is_not_taken(rt: HostRuntime) -> Result<(), Fail> {
-    let mut receiver = Receiver::new(rt.alloc());
-    assert!(rt; receiver.take_up(b"a.b") == Err(TakeFault::Bad(Spot::Compact)));
-    assert!(rt; receiver.tokens() == 0);
+    assert!(rt; taken_up(rt.alloc(), b"a.b") == Err(TakeFault::Bad(Spot::Compact)));
     Ok(())
 }
