@@ -5,7 +5,7 @@ use sig_json::MemoryRefusal;
 use sig_set::{ClaimsFault, Spot};
 
 /// Why a text of the journal that is loaded was not taken.
-#[derive(Clone, Copy, PartialEq, Eq)]
+#[derive(Clone, Copy, Debug, PartialEq, Eq)]
 pub enum TakeFault {
     /// It is no token: the first check that fails is at this spot.
     Bad(Spot),

@@ -10,7 +10,7 @@ use sig_outside::Source;
 use std::alloc::Global;
 
 /// Why the bytes of a source weren't read.
-#[derive(Clone, Copy, PartialEq, Eq)]
+#[derive(Clone, Copy, Debug, PartialEq, Eq)]
 pub enum ReadFault {
     /// The source failed, and counted it.
     Failed,

@@ -14,7 +14,7 @@ use sig_json::MemoryRefusal;
 use std::alloc::Global;
 
 /// Why a text gives no claims.
-#[derive(Clone, Copy, PartialEq, Eq)]
+#[derive(Clone, Copy, Debug, PartialEq, Eq)]
 pub enum ClaimsFault {
     /// The first check that fails is at this spot.
     Bad(Spot),

@@ -4,7 +4,7 @@ ghost use Rattle.sig_set.specs.Spelled.{code_text, spot_text};
 use sig_json::MemoryRefusal;
 
 /// Why a token is refused (RFC 8935, section 2.4).
-#[derive(Clone, Copy, PartialEq, Eq)]
+#[derive(Clone, Copy, Debug, PartialEq, Eq)]
 pub enum Code {
     /// The token isn't one of this profile.
     InvalidRequest,
@@ -21,7 +21,7 @@ pub enum Code {
 }
 
 /// The part of a token at which its judgement ended.
-#[derive(Clone, Copy, PartialEq, Eq)]
+#[derive(Clone, Copy, Debug, PartialEq, Eq)]
 pub enum Spot {
     /// The bearer that it comes with.
     Bearer,
@@ -64,7 +64,7 @@ pub enum Spot {
 }
 
 /// A refused judgement.
-#[derive(Clone, Copy, PartialEq, Eq)]
+#[derive(Clone, Copy, Debug, PartialEq, Eq)]
 pub enum Refusal {
     /// The token is refused, exactly by the first check that fails.
     Coded {
