@@ -34,16 +34,6 @@ no_other (name ∷ words) ask h =
       | false ↦ λ not found. absurd (cc)
     ] refl h
 
--- what is asked for is told by the words
-pub asked_some : (ask : Asked) (o : Option Asked) → Some ask ≡ o → o ≡ None → ⊥
-asked_some ask o is none = cc
-
-pub asked_told : (ask : Asked) (o : Option Asked) (P : Asked → Type 0) → Some ask ≡ o → P ask → IfSome o P
-asked_told ask o P is h = subst (λ (x : Option Asked). IfSome x P) is h
-
-pub asked_none : (o : Option Asked) (P : Asked → Type 0) → None ≡ o → IfSome o P
-asked_none o P is = subst (λ (x : Option Asked). IfSome x P) is tt
-
 -- then they are no other command
 pub asked_alone : (words : List (List ℕ)) (ask : Asked) (command : Command) → Some ask ≡ init_of words → command_of words ≡ Some command → ⊥
 asked_alone words ask command is other = let none = no_other words ask (sym is) in cc

@@ -3,7 +3,8 @@ use Rattle.std.proofs.Common.{◌≡◌, ◌∙◌, sym, ℕ, List, inl, inr, ar
 use Rattle.sig_command.specs.Moment.{OutputState}
 use Rattle.sig_init.specs.declared.ending.InitEnd.{InitEnd}
 use Rattle.sig_init.specs.declared.ending.InitEnd.TheVariants.{Done, NotEmpty, Store, Memory}
-use Rattle.sig_service.specs.InitRuns.{PutLast, status_of}
+use Rattle.sig_service.specs.InitRuns.{status_of}
+use Rattle.sig_service.specs.LastLine.{PutLast}
 
 no_usage : (e : InitEnd) → status_of e ≡ 1 → ⊥
 no_usage Done h = omega (arith, h)

@@ -1,2 +1,5 @@
 pub mod AskingLemmas
 pub mod EndLemmas
+pub mod LastLineLemmas
+pub mod ServeAskingLemmas
+pub mod ServeEndLemmas

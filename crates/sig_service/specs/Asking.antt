@@ -1,9 +1,14 @@
--- The words of `init`.
-use Rattle.std.specs.Prelude.{ℕ, List, [], ◌∷◌, Option, None, Some, option_and_then, option_map, bytes_eq, codes, if◌then◌else◌}
+-- The words of `init` and of `serve`.
+use Rattle.std.specs.Prelude.{ℕ, List, [], ◌∷◌, ◌&&◌, Option, None, Some, option_and_then, option_map, bytes_eq, codes, if◌then◌else◌, nat_le, nat_lt, slice_index}
+use Rattle.std.specs.Str.{all_ascii_digits}
+use Rattle.std.specs.Str.Parse.{digits_value}
 use Rattle.uuid.specs.Text.{parsed}
+use Rattle.sig_json.specs.declared.limits.TheConstants.{LAST_NUMBER}
 use Rattle.sig_journal.specs.declared.kind.Kind.{Kind}
 use Rattle.sig_journal.specs.declared.kind.Kind.TheVariants.{Tx, Rx}
 use Rattle.sig_program.specs.Command.{is_filled}
+
+-- ---- `init`
 
 -- what `init` is asked for: whose store it is to be, its name and its id
 pub record Asked : Type 0 where
@@ -29,7 +34,43 @@ init_words (kind ∷ store ∷ []) = None
 init_words (kind ∷ store ∷ store_id ∷ []) = ask_of kind store store_id
 init_words (kind ∷ store ∷ store_id ∷ more ∷ words) = None
 
--- what words ask `init` for, none where they don't
+-- what words ask `init` for; none where they don't
 abbrev pub init_of : List (List ℕ) → Option Asked
 init_of [] = None
 init_of (name ∷ words) = if bytes_eq name (codes "init") then init_words words else None
+
+-- ---- `serve`
+
+-- what `serve` is asked for: the settings and the store, by their names, and how many watches
+pub record ServeAsked : Type 0 where
+  pub settings : List ℕ
+  pub store : List ℕ
+  pub watches : ℕ
+
+-- a number up to LAST_NUMBER
+abbrev pub within : ℕ → Option ℕ
+within n = if nat_le n LAST_NUMBER then Some n else None
+
+-- a number from 1 to LAST_NUMBER, in decimal without leading zeros
+abbrev pub watches_of : List ℕ → Option ℕ
+watches_of word = if nat_lt 48 (slice_index word 0) && all_ascii_digits word then within (digits_value 10 word) else None
+
+-- `<settings> <store> <watches>`, with names that aren't empty
+abbrev pub serve_ask_of : List ℕ → List ℕ → List ℕ → Option ServeAsked
+serve_ask_of settings store watches =
+    if is_filled settings && is_filled store
+    then option_map (λ n. record { settings = settings; store = store; watches = n }) (watches_of watches)
+    else None
+
+-- the words after the name
+abbrev pub serve_words : List (List ℕ) → Option ServeAsked
+serve_words [] = None
+serve_words (settings ∷ []) = None
+serve_words (settings ∷ store ∷ []) = None
+serve_words (settings ∷ store ∷ watches ∷ []) = serve_ask_of settings store watches
+serve_words (settings ∷ store ∷ watches ∷ more ∷ words) = None
+
+-- what words ask `serve` for; none where they don't
+abbrev pub serve_of : List (List ℕ) → Option ServeAsked
+serve_of [] = None
+serve_of (name ∷ words) = if bytes_eq name (codes "serve") then serve_words words else None

@@ -1,12 +1,12 @@
 -- How a run of `init` ends: for each ending its status, its last line, and what became of the store's files.
-use Rattle.std.specs.Prelude.{◌≡◌, ◌⊎◌, ℕ, List, [], ◌++◌, codes, decimal}
-use Rattle.std.specs.Io.KnownBytes.{Appends}
-use Rattle.sig_outside.specs.Causes.{AppendsPrefix, Rose}
-use Rattle.sig_command.specs.Moment.{OutputCalm, OutputState, OutputStopped}
+use Rattle.std.specs.Prelude.{◌≡◌, ℕ, List, [], ◌++◌, codes, decimal}
+use Rattle.sig_outside.specs.Causes.{Rose}
+use Rattle.sig_command.specs.Moment.{OutputState}
 use Rattle.sig_init.specs.Files.{Held, KeepsBut, LeavesAsItWas, MakesStore, StaysTold, TellsEmpty, file_a, file_b}
 use Rattle.sig_init.specs.declared.ending.InitEnd.{InitEnd}
 use Rattle.sig_init.specs.declared.ending.InitEnd.TheVariants.{Done, NotEmpty, Store, Memory}
 use Rattle.sig_service.specs.Asking.{Asked}
+use Rattle.sig_service.specs.LastLine.{PutLast}
 
 -- the status of an ending
 abbrev pub status_of : InitEnd → ℕ
@@ -21,12 +21,6 @@ last_line Done = []
 last_line (NotEmpty size) = codes "signals: not empty " ++ decimal size ++ codes "\n"
 last_line Store = codes "signals: store failed\n"
 last_line Memory = codes "signals: memory\n"
-
--- how a last line was put, after which the run ends with this status: whole, or the output stopped after a prefix of it
-abbrev pub PutLast : ℕ → List ℕ → OutputState → OutputState → ℕ → Type 0
-PutLast wanted line before after status =
-    ((status ≡ wanted) × Appends before.written after.written line × OutputCalm before after)
-    ⊎ ((status ≡ 4) × AppendsPrefix before.written after.written line × OutputStopped before after)
 
 -- what became of the store's files in a making that ended so, as the outside told them before and tells them now
 pub record MadeSo (ask : Asked) (e : InitEnd) (before now : Held) (faults new_faults : ℕ) : Type 0 where

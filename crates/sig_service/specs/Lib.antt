@@ -1,2 +1,4 @@
 pub mod Asking
+pub mod LastLine
 pub mod InitRuns
+pub mod ServeRuns

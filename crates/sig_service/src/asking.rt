@@ -1,10 +1,11 @@
-//! The words of `init`.
+//! The words of `init` and of `serve`.
 
-ghost use Rattle.std.specs.Prelude.{◌≡◌, map, option_map, string_bytes};
+ghost use Rattle.std.specs.Prelude.{◌≡◌, map, option_and_then, option_map, string_bytes};
 ghost use Rattle.sig_service.specs.Asking as spec;
 
 use sig_init::store_id_of;
 use sig_journal::Kind;
+use sig_json::limits::LAST_NUMBER;
 
 /// What `init` is asked for.
 #[derive(Clone, Copy)]
@@ -61,6 +62,73 @@ fn kind_of(word: &str) -> Option<Kind>
     match word {
         "tx" => Some(Kind::Tx),
         "rx" => Some(Kind::Rx),
+        _ => None,
+    }
+}
+
+/// What `serve` is asked for.
+#[derive(Clone, Copy)]
+pub struct ServeAsk<'a> {
+    /// The name of the settings.
+    pub settings: &'a str,
+    /// The name of the store, by which its two files are named.
+    pub store: &'a str,
+    /// How many watches it runs at most.
+    pub watches: u64,
+}
+
+/// What `serve` is asked for by these words; none exactly where they aren't `serve`, the names of settings and of a store,
+/// neither of which is empty, and a number of watches from 1 to 2^62, in decimal without leading zeros.
+pub fn serve_of(words: &[String]) -> Option<ServeAsk<'_>>
+    ensures { option_map (λ ask. record { settings = ask.settings.now; store = ask.store.now; watches = ask.watches }) result ≡ spec.serve_of (map (λ word. string_bytes word) words.now) }
+{
+    let (name, words) = words.split_first()?;
+    if name.as_str() != "serve" {
+        return None;
+    }
+    serve_words(words)
+}
+
+// What `serve` is asked for by the words after its name.
+#[tactic(auto, using(crate::proofs::ServeAskingLemmas::serve_three))]
+fn serve_words(words: &[String]) -> Option<ServeAsk<'_>>
+    ensures { option_map (λ ask. record { settings = ask.settings.now; store = ask.store.now; watches = ask.watches }) result ≡ spec.serve_words (map (λ word. string_bytes word) words.now) }
+{
+    if words.len() != 3 {
+        return None;
+    }
+    serve_ask_of(words[0].as_str(), words[1].as_str(), words[2].as_str())
+}
+
+fn serve_ask_of<'a>(settings: &'a str, store: &'a str, watches: &str) -> Option<ServeAsk<'a>>
+    ensures { option_map (λ ask. record { settings = ask.settings.now; store = ask.store.now; watches = ask.watches }) result ≡ spec.serve_ask_of settings.now store.now watches.now }
+{
+    if settings.is_empty() || store.is_empty() {
+        return None;
+    }
+    let watches = watches_of(watches)?;
+    Some(ServeAsk {
+        settings,
+        store,
+        watches,
+    })
+}
+
+// A number from 1 to 2^62, in decimal without leading zeros.
+fn watches_of(word: &str) -> Option<u64>
+    ensures { result ≡ spec.watches_of word.now }
+{
+    match word.as_bytes() {
+        [first, ..] if *first > b'0' => up_to_last(word.parse::<u64>().ok()),
+        _ => None,
+    }
+}
+
+fn up_to_last(number: Option<u64>) -> Option<u64>
+    ensures { result ≡ option_and_then spec.within number }
+{
+    match number {
+        Some(number) if number <= LAST_NUMBER => Some(number),
         _ => None,
     }
 }

@@ -2,12 +2,14 @@
 
 ghost use Rattle.std.specs.Prelude.{◌≡◌};
 ghost use Rattle.sig_command.specs.Moment.{output_state};
-ghost use Rattle.sig_service.specs.InitRuns.{InitRan, PutLast, last_line, status_of};
+ghost use Rattle.sig_service.specs.InitRuns.{InitRan, last_line, status_of};
+ghost use Rattle.sig_service.specs.LastLine.{PutLast};
 
+use crate::last_line::put_last;
 use sig_init::{InitEnd, init};
 use sig_journal::Kind;
 use sig_links::Outside;
-use sig_outside::{Sink, put_all};
+use sig_outside::Sink;
 use sig_program::numbered;
 use std::alloc::Global;
 
@@ -37,34 +39,13 @@ fn close<O: Sink>(made: InitEnd, output: &mut O) -> u8
     ensures { PutLast (status_of made) (last_line made) (output_state (O.written output.old) (O.faults output.old) (O.stalls output.old)) (output_state (O.written output.new) (O.faults output.new) (O.stalls output.new)) result }
 {
     match made {
-        InitEnd::Done => status(made),
-        InitEnd::NotEmpty(size) => {
-            put_last(made, numbered("signals: not empty ", size).as_str(), output)
-        }
-        InitEnd::Store => put_last(made, "signals: store failed\n", output),
-        InitEnd::Memory => put_last(made, "signals: memory\n", output),
-    }
-}
-
-// Puts the last line of an ending, and answers the status: 4 where the output stops.
-fn put_last<O: Sink>(made: InitEnd, line: &str, output: &mut O) -> u8
-    requires { line.now ≡ last_line made }
-    ensures { PutLast (status_of made) (last_line made) (output_state (O.written output.old) (O.faults output.old) (O.stalls output.old)) (output_state (O.written output.new) (O.faults output.new) (O.stalls output.new)) result }
-{
-    match put_all(output, line.as_bytes()) {
-        Ok(()) => status(made),
-        Err(_) => 4,
-    }
-}
-
-// The exit status of an ending whose last line was put.
-fn status(made: InitEnd) -> u8
-    ensures { result ≡ status_of made }
-{
-    match made {
         InitEnd::Done => 0,
-        InitEnd::NotEmpty(_) => 12,
-        InitEnd::Store => 5,
-        InitEnd::Memory => 9,
+        InitEnd::NotEmpty(size) => put_last(
+            12,
+            numbered("signals: not empty ", size).as_str(),
+            output,
+        ),
+        InitEnd::Store => put_last(5, "signals: store failed\n", output),
+        InitEnd::Memory => put_last(9, "signals: memory\n", output),
     }
 }

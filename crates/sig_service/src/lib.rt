@@ -1,23 +1,28 @@
-//! The program over everything that it is handed from outside: words, input, output, and the files of stores.
+//! The program over everything that it is handed from outside: words, input, output, files, and the network.
 //!
 //! ```text
-//!     words -> init <tx or rx> <store> <store id> -> an empty store -> the status and the last line
-//!           -> any other words                    -> sig_program
+//!     words -> serve <settings> <store> <watches>  -> sig_serve -> the status and the last line
+//!           -> init <tx or rx> <store> <store id>  -> sig_init  -> the status and the last line
+//!           -> any other words                     -> sig_program
 //! ```
 //!
-//! It stands on `sig_program`, which does what needs no files, on `sig_init`, which makes an empty store, and on `sig_tcp` for
-//! the system as the outside. Promised by `run_plain`: words that are no `init` end as `sig_program::run` ends them, and touch
-//! nothing outside; `init` ends by its cause, prints its last line and nothing else, gives back each file that it opened,
-//! and touches no other.
+//! It stands on `sig_program`, which does what needs no files, on `sig_init`, which makes an empty store, on `sig_serve`, which
+//! serves a transmitter's store, and on `sig_tcp` for the system as the outside. Promised by `run`: each command ends by its
+//! cause, and a last line says so, or nothing is printed; `serve` puts back the store that it opened with the facts of its
+//! links' turns, and `init` the files of its store; and no other file is touched. `run_plain` does the same for all words but
+//! those of `serve`, and always returns.
 //!
-//! Left out: a crash while a store is made, of which nothing is said.
+//! Left out: a crash while a store is made, of which nothing is said; a receiver's server, whose command isn't built; and
+//! that a link comes.
 #![tactic(auto)]
 
 mod asking;
 mod entering;
 mod init_run;
+mod last_line;
 mod running;
+mod serve_run;
 
-pub use asking::{InitAsk, init_of};
+pub use asking::{InitAsk, ServeAsk, init_of, serve_of};
 pub use entering::enter;
-pub use running::run_plain;
+pub use running::{run, run_plain};
