@@ -1,12 +1,14 @@
 #!/usr/bin/env -S python3 -B
 """The transmitter's server over real sockets and files, as a client, an operator and a push receiver see it.
 
-The built program makes a store, serves it, and is killed with no warning (SIGKILL) at random moments between and during
+The built program makes a store, serves it by the settings of examples/transmitter.json, and is killed with no warning (SIGKILL) at random moments between and during
 requests. After each start whatever was answered stands: streams, their configurations, what is owed and what was
 acknowledged. Expected values are by OpenID Shared Signals Framework 1.0, RFC 8935 and RFC 8936, and tokens are verified by
 Python's own HMAC.
 
-    python3 -B tools/check_server.py [PROGRAM] [ROUNDS]
+    python3 -B tools/check_server.py [PROGRAM [ROUNDS]]
+
+Without a built program, or where no socket can be opened, it says that it is passed over.
 """
 import base64
 import hashlib
@@ -94,20 +96,17 @@ class Server:
         self.program, self.room, self.port, self.running = program, room, free_port(), None
         self.settings = os.path.join(room, "transmitter.json")
         self.store = os.path.join(room, "tx")
-        with open(self.settings, "w", encoding="utf-8") as file:
-            json.dump(
-                {
-                    "issuer": "https://idp.example",
-                    "base": f"http://127.0.0.1:{self.port}",
-                    "listen": f"127.0.0.1:{self.port}",
-                    "operator": "operator-secret",
-                    "default_subjects": "ALL",
-                    "min_verification_interval": 0,
-                    "key": {"k": base64.urlsafe_b64encode(KEY).rstrip(b"=").decode()},
-                    "clients": [{"name": "acme", "bearer": "acme-secret", "aud": ["https://rp.example"]}],
-                },
-                file,
-            )
+        with open(os.path.join(TOP, "examples", "transmitter.json"), encoding="utf-8") as file:
+            self.said = json.load(file)
+        self.said["base"] = f"http://127.0.0.1:{self.port}"
+        self.said["listen"] = f"127.0.0.1:{self.port}"
+        self.client, self.operator = self.said["clients"][0]["bearer"], self.said["operator"]
+        self.write(self.settings, self.said)
+
+    @staticmethod
+    def write(path, said):
+        with open(path, "w", encoding="utf-8") as file:
+            json.dump(said, file)
 
     def run(self, *words):
         ran = subprocess.run([self.program, *words], capture_output=True, timeout=60, check=False)
@@ -131,8 +130,9 @@ class Server:
         out, _ = self.running.communicate()
         need(out == b"", f"the server wrote to its output: {out!r}")
 
-    def ask(self, method, path, body=None, bearer="acme-secret"):
+    def ask(self, method, path, body=None, bearer="client"):
         link = http.client.HTTPConnection("127.0.0.1", self.port, timeout=30)
+        bearer = {"client": self.client, "operator": self.operator}.get(bearer, bearer)
         headers = {"authorization": f"Bearer {bearer}"} if bearer else {}
         if body is not None:
             headers["content-type"] = "application/json"
@@ -180,6 +180,37 @@ def story(server, receiver):
     return stream, pushed["stream_id"]
 
 
+def refusals(server, room):
+    """How a server that can't begin ends."""
+    other = os.path.join(room, "other")
+    need(server.run("serve", server.settings, server.store) == (1, "signals: usage\n"), "words that are no command aren't told so")
+    for watches in ("0", "01", "x", "4611686018427387905"):
+        need(server.run("serve", server.settings, server.store, watches)[0] == 1, f"{watches} is a number of watches")
+    ended = server.run("serve", other, server.store, "1")
+    need(ended == (3, "signals: input failed\n"), f"settings that aren't there: {ended}")
+    server.write(other, {name: what for name, what in server.said.items() if name != "operator"})
+    ended = server.run("serve", other, server.store, "1")
+    need(ended == (10, "signals: settings operator\n"), f"settings without the operator: {ended}")
+    ended = server.run("serve", server.settings, os.path.join(room, "nowhere", "tx"), "1")
+    need(ended == (5, "signals: store failed\n"), f"a store in a folder that isn't there: {ended}")
+    need(server.run("init", "rx", other, str(uuid.UUID(int=9))) == (0, ""), "a receiver's store isn't made")
+    ended = server.run("serve", server.settings, other, "1")
+    need(ended == (6, "signals: damaged a 6\n"), f"a receiver's store: {ended}")
+
+
+def taken(server):
+    """A second server at the place and over the store of one that runs."""
+    other = os.path.join(os.path.dirname(server.store), "second")
+    need(server.run("init", "tx", other, str(uuid.UUID(int=10))) == (0, ""), "a second store isn't made")
+    words = [server.program, "serve", server.settings, other, "1"]
+    ran = subprocess.run(words, capture_output=True, timeout=60, check=False)
+    need((ran.returncode, ran.stdout) == (7, b"signals: network failed\n"), f"a place that is taken: {ran}")
+    need(b"the place is in use" in ran.stderr, f"a place that is taken isn't said: {ran.stderr}")
+    ran = subprocess.run([*words[:3], server.store, "1"], capture_output=True, timeout=60, check=False)
+    need((ran.returncode, ran.stdout) == (5, b"signals: store failed\n"), f"a store that is in use: {ran}")
+    need(b"the store is in use" in ran.stderr, f"a store that is in use isn't said: {ran.stderr}")
+
+
 def check_tokens(told, published):
     """Each token says an event that was published."""
     for token in told:
@@ -188,25 +219,40 @@ def check_tokens(told, published):
         need(claims["sub_id"]["id"] in published, "a token is about nobody that was published")
 
 
+def can_open():
+    """Whether a socket can be opened here."""
+    try:
+        return free_port() > 0
+    except OSError:
+        return False
+
+
 def main():
     program = os.path.abspath(sys.argv[1]) if len(sys.argv) > 1 else os.path.join(TOP, "crates/signals/out/signals")
     rounds = int(sys.argv[2]) if len(sys.argv) > 2 else 12
+    if not os.access(program, os.X_OK):
+        print(f"passed over: no program is built at {os.path.relpath(program, TOP)}")
+        return
+    if not can_open():
+        print("passed over: no socket can be opened here")
+        return
     draw = random.Random(8417)
     with tempfile.TemporaryDirectory() as room:
         server, receiver = Server(program, room), Receiver()
         need(server.run("init", "tx", server.store, str(uuid.UUID(int=7))) == (0, ""), "a store isn't made")
         code, said = server.run("init", "tx", server.store, str(uuid.UUID(int=8)))
         need(code == 12 and said.startswith("signals: not empty "), f"a store is made twice: {code} {said}")
-        need(server.run("serve", server.settings, server.store)[0] == 1, "words that are no command aren't told so")
+        refusals(server, room)
         server.start()
+        taken(server)
         stream, pushing = story(server, receiver)
         published, acknowledged, number = set(), set(), 0
         for _ in range(rounds):
             for _ in range(draw.randrange(1, 8)):
                 body, subject = publish(server, number)
-                status, answer = server.ask("POST", "/operator/publish", body, bearer="operator-secret")
+                status, answer = server.ask("POST", "/operator/publish", body, bearer="operator")
                 need(status == 200 and len(answer["tokens"]) == 2, f"a publication is answered {status} {answer}")
-                again = server.ask("POST", "/operator/publish", body, bearer="operator-secret")
+                again = server.ask("POST", "/operator/publish", body, bearer="operator")
                 need(again == (status, answer), "a repeated publication is answered in another way")
                 published.add(subject["id"])
                 number += 1
@@ -226,7 +272,7 @@ def main():
             server.kill()
             late.join()
             server.start()
-            status, answer = server.ask("POST", "/operator/publish", body, bearer="operator-secret")
+            status, answer = server.ask("POST", "/operator/publish", body, bearer="operator")
             need(status == 200 and len(answer["tokens"]) == 2, f"a publication after a kill is answered {status} {answer}")
             need(server.ask("GET", f"/ssf/stream?stream_id={stream}")[1]["description"] == "changed", "a change is lost")
         everything = {}
@@ -237,12 +283,12 @@ def main():
             everything.update(owed)
         need(not acknowledged & set(everything), "an acknowledged token is owed at the end")
         need(len(acknowledged) + len(everything) == number, f"{len(acknowledged)} and {len(everything)} tokens of {number}")
-        server.ask("POST", "/operator/deliver", {"stream_id": pushing}, bearer="operator-secret")
+        server.ask("POST", "/operator/deliver", {"stream_id": pushing}, bearer="operator")
         told = {claims_of(token)["jti"] for token in receiver.tokens}
         check_tokens(receiver.tokens, published)
         deadline = time.time() + 20
         while len(told) < number and time.time() < deadline:
-            server.ask("POST", "/operator/deliver", {"stream_id": pushing}, bearer="operator-secret")
+            server.ask("POST", "/operator/deliver", {"stream_id": pushing}, bearer="operator")
             told = {claims_of(token)["jti"] for token in receiver.tokens}
         need(len(told) == number, f"{len(told)} of {number} tokens were pushed")
         status, _ = server.ask("DELETE", f"/ssf/stream?stream_id={stream}")
@@ -253,7 +299,7 @@ def main():
 
 def quietly(server, body):
     try:
-        server.ask("POST", "/operator/publish", body, bearer="operator-secret")
+        server.ask("POST", "/operator/publish", body, bearer="operator")
     except OSError:
         pass
     except http.client.HTTPException:
