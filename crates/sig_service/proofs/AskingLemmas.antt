@@ -1,5 +1,5 @@
 -- The words after the name of `init`, and that they are no other command.
-use Rattle.std.proofs.Common.{◌≡◌, ◌≢◌, ◌∙◌, sym, ℕ, List, [], ◌∷◌, map, length, get_or, Option, Some, None, Bool, true, false, bytes_eq, codes, refl, subst, arith, IfSome, if◌then◌else◌}
+use Rattle.std.proofs.Common.{◌≡◌, ◌≢◌, sym, ℕ, List, [], ◌∷◌, map, length, get_or, Some, None, true, false, bytes_eq, codes, refl, arith, if◌then◌else◌}
 use Rattle.std.proofs.lemmas.Slice.Eq.{bytes_eq-Decides}
 use Rattle.std.specs.Prelude.{String, string_bytes}
 use Rattle.std.specs.declared.alloc.Global.{Global}

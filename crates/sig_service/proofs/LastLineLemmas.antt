@@ -1,5 +1,5 @@
 -- How the parts of a last line come together, and that they are the line of an ending.
-use Rattle.std.proofs.Common.{◌≡◌, ◌==◌, ◌≢◌, sym, subst, refl, arith, List, ℕ, ◌++◌, Option, Result, Ok, Err, Bool, false, codes, decimal}
+use Rattle.std.proofs.Common.{◌≡◌, ◌==◌, ◌≢◌, sym, subst, refl, arith, List, ℕ, ◌++◌, Option, Result, Ok, Err, false, codes, decimal}
 use Rattle.std.specs.Prelude.{OnErr}
 use Rattle.std.specs.Io.KnownBytes.{Appends}
 use Rattle.std.proofs.KnownBytes.{Appends-trans}

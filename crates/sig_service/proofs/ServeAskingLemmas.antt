@@ -1,6 +1,6 @@
 -- The words after the name of `serve`, and that they are no other command.
-use Rattle.std.proofs.Common.{◌≡◌, ◌≢◌, ◌∙◌, ap, sym, ℕ, zero, suc, ◌<◌, ◌^◌, List, [], ◌∷◌, map, length, get_or, Option, Some, None, Bool, true, false, bytes_eq, codes, refl, subst, inl, inr, arith, IfSome}
-use Rattle.std.specs.Prelude.{String, string_bytes, Result, Ok, Err, nat_le, nat_lt, ◌&&◌, if◌then◌else◌, option_and_then, slice_index}
+use Rattle.std.proofs.Common.{◌≡◌, ◌≢◌, ◌∙◌, ap, sym, ℕ, zero, ◌<◌, ◌^◌, List, [], ◌∷◌, map, length, get_or, Option, Some, None, Bool, true, false, bytes_eq, codes, refl, subst, inl, inr, arith, IfSome}
+use Rattle.std.specs.Prelude.{String, string_bytes, Result, Ok, Err, nat_lt, ◌&&◌, if◌then◌else◌, option_and_then, slice_index}
 use Rattle.std.specs.Result.{OkIff, result_ok}
 use Rattle.std.specs.Str.{all_ascii_digits}
 use Rattle.std.specs.Str.Parse.{ParsesUnsigned, digits_value}
@@ -12,7 +12,7 @@ use Rattle.std.proofs.lemmas.Str.Parse.{IsNumeralModel, numerals_by_value, parse
 use Rattle.sig_json.specs.declared.limits.TheConstants.{LAST_NUMBER}
 use Rattle.sig_program.specs.Command.{command_of}
 use Rattle.sig_program.specs.declared.command.Command.{Command}
-use Rattle.sig_service.specs.Asking.{Asked, ServeAsked, init_of, serve_ask_of, serve_of, serve_words, watches_of, within}
+use Rattle.sig_service.specs.Asking.{ServeAsked, init_of, serve_ask_of, serve_of, serve_words, watches_of, within}
 
 -- ---- how many watches
 

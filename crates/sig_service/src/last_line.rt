@@ -1,6 +1,6 @@
 //! The last line of a run.
 
-ghost use Rattle.std.specs.Prelude.{◌≡◌, ◌++◌, OnErr, OnOk};
+ghost use Rattle.std.specs.Prelude.{◌++◌, OnErr, OnOk};
 ghost use Rattle.std.specs.Io.KnownBytes.{Appends};
 ghost use Rattle.sig_outside.specs.Causes.{AppendsPrefix};
 ghost use Rattle.sig_command.specs.Moment.{OutputCalm, OutputStopped, output_state};
