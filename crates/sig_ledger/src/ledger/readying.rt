@@ -45,10 +45,24 @@ impl Ledger {
         ensures fact { IfOk result (λ p. p.fact ≡ fact) }
         ensures room { IfOk result (HasRoom (sum_in self.new.books).parts self.new.room) }
     {
-        let spare = self.spare_for(&fact)?;
-        self.reserve_tokens(&fact)?;
-        self.reserve_own(&fact)?;
-        Ok(Prepared::of(fact, spare))
+        match self.room_for(&fact) {
+            Ok(spare) => Ok(Prepared::of(fact, spare)),
+            Err(Memory) => {
+                drop(fact);
+                Err(Memory)
+            }
+        }
+    }
+
+    // Room for a fact, and what is kept beside it.
+    fn room_for(&mut self, fact: &Fact) -> Result<Spare, Memory>
+        ensures keeps { self.new.books ≡ self.old.books }
+        ensures room { IfOk result (λ spare. HasRoom (sum_in self.new.books).parts self.new.room (record { fact = fact.now; spare = spare })) }
+    {
+        let spare = self.spare_for(fact)?;
+        self.reserve_tokens(fact)?;
+        self.reserve_own(fact)?;
+        Ok(spare)
     }
 
     /// A step of this answer and this fact, if any, with room for it.
