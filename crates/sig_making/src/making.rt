@@ -63,11 +63,16 @@ pub fn make(ledger: &mut Ledger, answer: Answer, fact: Fact) -> Result<Step, Pre
         (outcome (making (sum_in ledger.old.books).parts answer fact)) }
     ensures room { IfOk result (λ step. IfSome step.change (HasRoom (sum_in ledger.new.books).parts ledger.new.room)) }
 {
-    let size = largest_payload(ledger, &fact)?;
+    let Ok(size) = largest_payload(ledger, &fact) else {
+        drop(fact);
+        return Err(PrepareFault::Memory);
+    };
     if is_long(size) {
+        drop(fact);
         return Ok(Step::only(Answer::Long { size: size as u64 }));
     }
     if goes_past(ledger, &fact) {
+        drop(fact);
         return Err(PrepareFault::Number(LAST_NUMBER + 1));
     }
     let step = ledger.step(answer, Some(fact))?;
