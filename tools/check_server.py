@@ -8,6 +8,9 @@ Python's own HMAC.
 
     python3 -B tools/check_server.py [PROGRAM [ROUNDS]]
 
+Before that it asks for single answers, each as worked out by hand (`server_rows.py`), among them those of a full disk and to
+clients that break off. With 100 rounds and more a client that says nothing is tried too, which takes half a minute.
+
 Without a built program, or where no socket can be opened, it says that it is passed over.
 """
 import base64
@@ -27,11 +30,16 @@ import threading
 import time
 import uuid
 
+sys.dont_write_bytecode = True
+import server_rows
+
 TOP = os.path.dirname(os.path.dirname(os.path.abspath(__file__)))
 KEY = b"0123456789abcdef0123456789abcdef"
 SESSION_REVOKED = "https://schemas.openid.net/secevent/caep/event-type/session-revoked"
 PUSH = "urn:ietf:rfc:8935"
 POLL = "urn:ietf:rfc:8936"
+# From so many kills on, what takes half a minute is tried too.
+LONG = 100
 
 
 def fail(why):
@@ -112,9 +120,9 @@ class Server:
         ran = subprocess.run([self.program, *words], capture_output=True, timeout=60, check=False)
         return ran.returncode, ran.stdout.decode()
 
-    def start(self):
+    def start(self, before=None):
         words = [self.program, "serve", self.settings, self.store, "1000000"]
-        self.running = subprocess.Popen(words, stdout=subprocess.PIPE, stderr=subprocess.PIPE)
+        self.running = subprocess.Popen(words, stdout=subprocess.PIPE, stderr=subprocess.PIPE, preexec_fn=before)
         for _ in range(500):
             if self.running.poll() is not None:
                 fail(f"the server ended with {self.running.returncode}: {self.running.communicate()}")
@@ -237,6 +245,8 @@ def main():
         print("passed over: no socket can be opened here")
         return
     draw = random.Random(8417)
+    with tempfile.TemporaryDirectory() as room:
+        server_rows.rows(Server(program, room), room, rounds >= LONG)
     with tempfile.TemporaryDirectory() as room:
         server, receiver = Server(program, room), Receiver()
         need(server.run("init", "tx", server.store, str(uuid.UUID(int=7))) == (0, ""), "a store isn't made")
