@@ -46,31 +46,44 @@ fn is_seen(node: &mut RxNode<MemDisk>, call: &RxCall) -> Result<bool, RxFault> {
 }
 
 // Whether the disk fails in the first turn, and the next one is answered as if it did.
-fn breaks(alloc: Global, node: &mut RxNode<MemDisk>) -> Result<bool, Memory> {
-    let call = token(alloc)?;
-    let first = is_seen(node, &call);
-    let second = is_seen(node, &call);
+fn fails_twice(node: &mut RxNode<MemDisk>, first: Result<bool, RxFault>, call: &RxCall) -> bool {
+    let second = is_seen(node, call);
     let fails = first == Err(RxFault::Store) && second == Err(RxFault::Store);
-    Ok(fails && node.broken_at() == Some(1) && node.turns().len() == 2)
+    fails && node.broken_at() == Some(1) && node.turns().len() == 2
 }
 
-// Breaks a node, and gives its files. One that doesn't break counts as want of memory.
-fn broken(alloc: Global, node: RxNode<MemDisk>) -> Result<Files, Memory> {
-    let mut node = node;
-    let is_broken = breaks(alloc, &mut node) == Ok(true);
-    let (a, b) = node.into_disks();
-    if is_broken {
-        Ok(Files { a, b })
-    } else {
-        Err(Memory)
+// How many tokens a node has at first, whether it has seen the one, and whether it breaks in the turn that asks.
+#[derive(Clone, Copy)]
+struct Told {
+    tokens: usize,
+    is_seen: bool,
+    breaks: bool,
+}
+
+fn told_by(node: &mut RxNode<MemDisk>, call: &RxCall) -> Told {
+    let tokens = node.entries().len();
+    let first = is_seen(node, call);
+    let is_seen = first == Ok(true);
+    let breaks = fails_twice(node, first, call);
+    Told {
+        tokens,
+        is_seen,
+        breaks,
     }
 }
 
-fn broken_at(alloc: Global, failing: u64) -> Result<Files, Memory> {
+fn ended(node: RxNode<MemDisk>, call: &RxCall) -> (Told, Files) {
+    let mut node = node;
+    let told = told_by(&mut node, call);
+    let (a, b) = node.into_disks();
+    (told, Files { a, b })
+}
+
+fn loaded(alloc: Global, files: Files, call: &RxCall) -> Result<(Told, Files), Memory> {
     let rules = rules(alloc)?;
-    let Files { a, b } = store(alloc, b'R', failing)?;
+    let Files { a, b } = files;
     match RxNode::load(alloc, a, b, rules) {
-        Ok(node) => broken(alloc, node),
+        Ok(node) => Ok(ended(node, call)),
         Err(
             LoadRefused {
                 fault: _,
@@ -81,39 +94,16 @@ fn broken_at(alloc: Global, failing: u64) -> Result<Files, Memory> {
     }
 }
 
-// How many tokens a node has, and whether it has seen the one.
-fn has_seen(alloc: Global, node: &mut RxNode<MemDisk>) -> Result<(usize, bool), RxFault> {
+// What a node is loaded as whose disk failed at this call; none where that didn't break it.
+fn loaded_again(alloc: Global, failing: u64) -> Result<Option<(usize, bool)>, Memory> {
     let call = token(alloc)?;
-    let count = node.entries().len();
-    Ok((count, is_seen(node, &call)?))
-}
-
-fn state_of(alloc: Global, node: RxNode<MemDisk>) -> Result<(usize, bool), RxFault> {
-    let mut node = node;
-    let state = has_seen(alloc, &mut node);
-    let (_, _) = node.into_disks();
-    state
-}
-
-fn state_after(alloc: Global, files: &Files) -> Result<(usize, bool), RxFault> {
-    let rules = rules(alloc)?;
-    let Files { a, b } = mended(alloc, files)?;
-    match RxNode::load(alloc, a, b, rules) {
-        Ok(node) => state_of(alloc, node),
-        Err(
-            LoadRefused {
-                fault: _,
-                a: _,
-                b: _,
-            },
-        ) => Err(RxFault::Memory),
+    let (first, files) = loaded(alloc, store(alloc, b'R', failing)?, &call)?;
+    let (again, _) = loaded(alloc, mended(alloc, &files)?, &call)?;
+    if first.breaks && !again.breaks {
+        Ok(Some((again.tokens, again.is_seen)))
+    } else {
+        Ok(None)
     }
-}
-
-// What a node is loaded as whose disk failed at this call.
-fn loaded_again(alloc: Global, failing: u64) -> Result<(usize, bool), RxFault> {
-    let files = broken_at(alloc, failing)?;
-    state_after(alloc, &files)
 }
 
 // The four calls before them load the node.
@@ -122,7 +112,7 @@ fn a_broken_receiver_is_loaded_without_the_token_or_with_it(rt: HostRuntime) -> 
     for failing in 4..8u64 {
         let state = if failing < 7 { (0, false) } else { (1, true) };
         assert!(rt;
-            loaded_again(rt.alloc(), failing)? == state,
+            loaded_again(rt.alloc(), failing)? == Some(state),
             "call {failing}"
         );
     }

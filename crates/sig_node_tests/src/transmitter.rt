@@ -1,6 +1,6 @@
 //! A transmitter whose disk fails while a stream is deleted that it made before.
 
-ghost use Rattle.std.specs.Prelude.{◌≡◌, IfOk};
+ghost use Rattle.std.specs.Prelude.{IfOk};
 ghost use Rattle.sig_calls.specs.Proper.{IsProperCall, IsProperRules};
 
 use crate::stores::{Files, mended, store};
@@ -77,59 +77,56 @@ fn breaks(alloc: Global, node: &mut TxNode<MemDisk>) -> bool {
     is_made && fails && node.broken_at() == Some(2) && node.turns().len() == 3
 }
 
-// Breaks a node, and gives its files. One that doesn't break counts as want of memory.
-fn broken(alloc: Global, node: TxNode<MemDisk>) -> Result<Files, Memory> {
+// How many records a node has at first, whether the stream stands then, and whether the node breaks after that.
+#[derive(Clone, Copy)]
+struct Told {
+    records: u64,
+    stands: bool,
+    breaks: bool,
+}
+
+fn told_by(alloc: Global, node: &mut TxNode<MemDisk>) -> Told {
+    let records = node.records();
+    let stands = node.base().owed("acme-1").is_some();
+    let breaks = breaks(alloc, node);
+    Told {
+        records,
+        stands,
+        breaks,
+    }
+}
+
+fn ended(alloc: Global, node: TxNode<MemDisk>) -> (Told, Files) {
     let mut node = node;
-    let is_broken = breaks(alloc, &mut node);
+    let told = told_by(alloc, &mut node);
     let (a, b) = node.into_disks();
-    if is_broken {
-        Ok(Files { a, b })
+    (told, Files { a, b })
+}
+
+fn loaded(alloc: Global, files: Files) -> Result<(Told, Files), Memory> {
+    let rules = rules(alloc)?;
+    let Files { a, b } = files;
+    match TxNode::load(alloc, a, b, rules) {
+        Ok(node) => Ok(ended(alloc, node)),
+        Err(
+            LoadRefused {
+                fault: _,
+                a: _,
+                b: _,
+            },
+        ) => Err(Memory),
+    }
+}
+
+// What a node is loaded as whose disk failed at this call; none where that didn't break it.
+fn loaded_again(alloc: Global, failing: u64) -> Result<Option<(u64, bool)>, Memory> {
+    let (first, files) = loaded(alloc, store(alloc, b'T', failing)?)?;
+    let (again, _) = loaded(alloc, mended(alloc, &files)?)?;
+    if first.breaks && !again.breaks {
+        Ok(Some((again.records, again.stands)))
     } else {
-        Err(Memory)
+        Ok(None)
     }
-}
-
-fn broken_at(alloc: Global, failing: u64) -> Result<Files, Memory> {
-    let rules = rules(alloc)?;
-    let Files { a, b } = store(alloc, b'T', failing)?;
-    match TxNode::load(alloc, a, b, rules) {
-        Ok(node) => broken(alloc, node),
-        Err(
-            LoadRefused {
-                fault: _,
-                a: _,
-                b: _,
-            },
-        ) => Err(Memory),
-    }
-}
-
-// How many records a node has, and whether the stream stands.
-fn state_of(node: TxNode<MemDisk>) -> (u64, bool) {
-    let state = (node.records(), node.base().owed("acme-1").is_some());
-    let (_, _) = node.into_disks();
-    state
-}
-
-fn state_after(alloc: Global, files: &Files) -> Result<(u64, bool), Memory> {
-    let rules = rules(alloc)?;
-    let Files { a, b } = mended(alloc, files)?;
-    match TxNode::load(alloc, a, b, rules) {
-        Ok(node) => Ok(state_of(node)),
-        Err(
-            LoadRefused {
-                fault: _,
-                a: _,
-                b: _,
-            },
-        ) => Err(Memory),
-    }
-}
-
-// What a node is loaded as whose disk failed at this call.
-fn loaded_again(alloc: Global, failing: u64) -> Result<(u64, bool), Memory> {
-    let files = broken_at(alloc, failing)?;
-    state_after(alloc, &files)
 }
 
 // The eight calls before them load the node, and add the first record.
@@ -138,7 +135,7 @@ fn a_broken_transmitter_is_loaded_without_the_call_or_with_it(rt: HostRuntime) -
     for failing in 8..12u64 {
         let state = if failing < 11 { (1, true) } else { (2, false) };
         assert!(rt;
-            loaded_again(rt.alloc(), failing)? == state,
+            loaded_again(rt.alloc(), failing)? == Some(state),
             "call {failing}"
         );
     }
