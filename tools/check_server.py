@@ -13,6 +13,7 @@ clients that break off. With 100 rounds and more a client that says nothing is t
 
 Without a built program, or where no socket can be opened, it says that it is passed over.
 """
+import atexit
 import base64
 import hashlib
 import hmac
@@ -123,6 +124,8 @@ class Server:
     def start(self, before=None):
         words = [self.program, "serve", self.settings, self.store, "1000000"]
         self.running = subprocess.Popen(words, stdout=subprocess.PIPE, stderr=subprocess.PIPE, preexec_fn=before)
+        # where a check fails, no server is left behind
+        atexit.register(self.running.kill)
         for _ in range(500):
             if self.running.poll() is not None:
                 fail(f"the server ended with {self.running.returncode}: {self.running.communicate()}")
