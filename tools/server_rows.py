@@ -172,7 +172,7 @@ def full_disk(server):
 def rows(server, room, is_long):
     """All of these, over a server that isn't started yet."""
     server.said["clients"].append({"name": "zeta", "bearer": "change-me-zeta", "aud": ["https://zeta.example"]})
-    server.said["min_verification_interval"] = 1
+    server.said["min_verification_interval"] = 3
     server.write(server.settings, server.said)
     new_store(server, room)
     need(server.run("init", "tx", server.store, str(uuid.UUID(int=6))) == (0, ""), "a store isn't made")
