@@ -33,11 +33,10 @@ import uuid
 
 sys.dont_write_bytecode = True
 import server_rows
+from server_rows import PUSH, SESSION_REVOKED, need
 
 TOP = os.path.dirname(os.path.dirname(os.path.abspath(__file__)))
 KEY = b"0123456789abcdef0123456789abcdef"
-SESSION_REVOKED = "https://schemas.openid.net/secevent/caep/event-type/session-revoked"
-PUSH = "urn:ietf:rfc:8935"
 POLL = "urn:ietf:rfc:8936"
 # From so many kills on, what takes half a minute is tried too.
 LONG = 100
@@ -45,11 +44,6 @@ LONG = 100
 
 def fail(why):
     raise SystemExit(f"check_server: {why}")
-
-
-def need(is_so, why):
-    if not is_so:
-        fail(why)
 
 
 def free_port():
