@@ -95,8 +95,9 @@ def check_help(text):
     told = re.findall(r"^\./signals (\S+)", text, re.M)
     paths = [f"crates/{crate}/src/{file}.rt" for crate in crates() for file in ("command", "asking")]
     sources = [text_of(path) for path in paths if os.path.exists(os.path.join(TOP, path))]
-    known = re.findall(r'\bname(?:\.as_str\(\))? [!=]= "(\w+)"', "".join(sources))
-    if told != known + ["--unproved", "help"]:
+    known = re.findall(r'\bname(?:\.as_str\(\))? [!=]= "(\w+)"|"(\w+)" => Some\(Server::', "".join(sources))
+    known = [one or other for one, other in known]
+    if sorted(told) != sorted(known + ["--unproved", "help"]):
         tell("signals", f"its help has {told}, and the program knows {known}")
 
 

@@ -13,7 +13,6 @@ clients that break off. With 100 rounds and more a client that says nothing is t
 
 Without a built program, or where no socket can be opened, it says that it is passed over.
 """
-import atexit
 import base64
 import hashlib
 import hmac
@@ -22,8 +21,6 @@ import http.server
 import json
 import os
 import random
-import signal
-import socket
 import subprocess
 import sys
 import tempfile
@@ -33,23 +30,13 @@ import uuid
 
 sys.dont_write_bytecode = True
 import server_rows
-from server_rows import PUSH, SESSION_REVOKED, need
+from served import Served, built_program, free_port, need
+from server_rows import PUSH, SESSION_REVOKED
 
-TOP = os.path.dirname(os.path.dirname(os.path.abspath(__file__)))
 KEY = b"0123456789abcdef0123456789abcdef"
 POLL = "urn:ietf:rfc:8936"
 # From so many kills on, what takes half a minute is tried too.
 LONG = 100
-
-
-def fail(why):
-    raise SystemExit(f"check_server: {why}")
-
-
-def free_port():
-    with socket.socket() as found:
-        found.bind(("127.0.0.1", 0))
-        return found.getsockname()[1]
 
 
 def part(text):
@@ -92,60 +79,15 @@ class Receiver:
         return f"http://127.0.0.1:{self.port}/events"
 
 
-class Server:
-    """The program as it serves a store."""
+class Server(Served):
+    """A transmitter."""
 
     def __init__(self, program, room):
-        self.program, self.room, self.port, self.running = program, room, free_port(), None
-        self.settings = os.path.join(room, "transmitter.json")
-        self.store = os.path.join(room, "tx")
-        with open(os.path.join(TOP, "examples", "transmitter.json"), encoding="utf-8") as file:
-            self.said = json.load(file)
+        super().__init__(program, room, "serve", "transmitter.json", "tx")
         self.said["base"] = f"http://127.0.0.1:{self.port}"
-        self.said["listen"] = f"127.0.0.1:{self.port}"
         self.client, self.operator = self.said["clients"][0]["bearer"], self.said["operator"]
+        self.bearers = {"client": self.client, "operator": self.operator}
         self.write(self.settings, self.said)
-
-    @staticmethod
-    def write(path, said):
-        with open(path, "w", encoding="utf-8") as file:
-            json.dump(said, file)
-
-    def run(self, *words):
-        ran = subprocess.run([self.program, *words], capture_output=True, timeout=60, check=False)
-        return ran.returncode, ran.stdout.decode()
-
-    def start(self, before=None):
-        words = [self.program, "serve", self.settings, self.store, "1000000"]
-        self.running = subprocess.Popen(words, stdout=subprocess.PIPE, stderr=subprocess.PIPE, preexec_fn=before)
-        # where a check fails, no server is left behind
-        atexit.register(self.running.kill)
-        for _ in range(500):
-            if self.running.poll() is not None:
-                fail(f"the server ended with {self.running.returncode}: {self.running.communicate()}")
-            try:
-                socket.create_connection(("127.0.0.1", self.port), 1).close()
-                return
-            except OSError:
-                time.sleep(0.02)
-        fail("the server doesn't listen")
-
-    def kill(self):
-        self.running.send_signal(signal.SIGKILL)
-        out, _ = self.running.communicate()
-        need(out == b"", f"the server wrote to its output: {out!r}")
-
-    def ask(self, method, path, body=None, bearer="client"):
-        link = http.client.HTTPConnection("127.0.0.1", self.port, timeout=30)
-        bearer = {"client": self.client, "operator": self.operator}.get(bearer, bearer)
-        headers = {"authorization": f"Bearer {bearer}"} if bearer else {}
-        if body is not None:
-            headers["content-type"] = "application/json"
-        link.request(method, path, None if body is None else json.dumps(body), headers)
-        response = link.getresponse()
-        text = response.read()
-        link.close()
-        return response.status, json.loads(text) if text else None
 
 
 def publish(server, number):
@@ -224,22 +166,10 @@ def check_tokens(told, published):
         need(claims["sub_id"]["id"] in published, "a token is about nobody that was published")
 
 
-def can_open():
-    """Whether a socket can be opened here."""
-    try:
-        return free_port() > 0
-    except OSError:
-        return False
-
-
 def main():
-    program = os.path.abspath(sys.argv[1]) if len(sys.argv) > 1 else os.path.join(TOP, "crates/signals/out/signals")
+    program = built_program()
     rounds = int(sys.argv[2]) if len(sys.argv) > 2 else 12
-    if not os.access(program, os.X_OK):
-        print(f"passed over: no program is built at {os.path.relpath(program, TOP)}")
-        return
-    if not can_open():
-        print("passed over: no socket can be opened here")
+    if not program:
         return
     draw = random.Random(8417)
     with tempfile.TemporaryDirectory() as room:

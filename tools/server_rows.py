@@ -9,17 +9,14 @@ import struct
 import time
 import uuid
 
+from served import need
+
 SESSION_REVOKED = "https://schemas.openid.net/secevent/caep/event-type/session-revoked"
 PUSH = "urn:ietf:rfc:8935"
 STORE_ID = uuid.UUID("6ba7b810-9dad-11d1-80b4-00c04fd430c8")
 # What a store that was just made has in its first file: the gate, the magic, the version, the kind, a generation, the id, and an
 # empty journal.
 NEW_STORE = bytes.fromhex("5a5349474a0154" + "00" * 8 + STORE_ID.hex + "00000000" + "00")
-
-
-def need(is_so, why):
-    if not is_so:
-        raise SystemExit(f"check_server: {why}")
 
 
 def asked(server, method, path, body=None, headers=None, bearer=None):

@@ -12,7 +12,8 @@ use Rattle.sig_terms.specs.declared.rules.Rules.{Rules}
 use Rattle.sig_terms.specs.declared.token.Token.{Token}
 use Rattle.sig_txnode.specs.declared.turn.Turn.{Turn}
 use Rattle.sig_txnode.specs.Told.{TakerTold}
-use Rattle.sig_round.specs.Delivered.{Delivered, Delivers, HearsAll, IsJudged, SendsAll, SideView}
+use Rattle.sig_round.specs.Delivered.{Delivered, Delivers, HearsAll, IsJudged, SendsAll}
+use Rattle.sig_serving.specs.Side.{SideView}
 use Rattle.sig_round.specs.Turns.{Adds, AddsTurnOf, Asker, IsTurnOf}
 use Rattle.sig_round.proofs.Grown.{adds_none}
 

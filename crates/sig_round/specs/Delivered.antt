@@ -12,18 +12,8 @@ use Rattle.sig_terms.specs.declared.rules.Rules.{Rules}
 use Rattle.sig_terms.specs.declared.token.Token.{Token}
 use Rattle.sig_txnode.specs.Told.{TakerTold}
 use Rattle.sig_txnode.specs.declared.turn.Turn.{Turn}
+use Rattle.sig_serving.specs.Side.{SideView}
 use Rattle.sig_round.specs.Turns.{Adds, Asker, IsTurnOf}
-
--- a side: the links that its dials will give, the times that it will tell and the links that were given back to it, where it
--- tells them, and its count of faults
-pub record SideView : Type 0 where
-  pub ahead : Option (List LinkPlan)
-  pub times : Option (List ℕ)
-  pub sent : Option (List Sent)
-  pub faults : ℕ
-
-abbrev pub view_of : {S : Type 0} → (S → Option (List LinkPlan)) → (S → Option (List ℕ)) → (S → Option (List Sent)) → (S → ℕ) → S → SideView
-view_of ahead times sent faults side = record { ahead = ahead side; times = times side; sent = sent side; faults = faults side }
 
 -- a push is refused without a dial exactly for its token
 pub record IsJudged (rules : Rules) (token : Token) (result : Result Outcome PushFault) : Type 0 where

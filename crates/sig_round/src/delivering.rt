@@ -1,7 +1,8 @@
 //! The pushes of a round, and the turns that settle them.
 
 ghost use Rattle.std.specs.Prelude.{◌≡◌, [], ◌∷◌, IfOk, OnErr, OnOk};
-ghost use Rattle.sig_round.specs.Delivered.{Delivered, view_of};
+ghost use Rattle.sig_round.specs.Delivered.{Delivered};
+ghost use Rattle.sig_serving.specs.Side.{view_of};
 ghost use Rattle.sig_round.specs.Turns.{Adds, AddsTurnOf};
 
 use crate::TurnLog;

@@ -1,7 +1,8 @@
 //! A round, from its Hand turn on.
 
 ghost use Rattle.std.specs.Prelude.{◌≡◌, [], ◌∷◌, ◌++◌, List, IfOk};
-ghost use Rattle.sig_round.specs.Delivered.{Delivered, view_of};
+ghost use Rattle.sig_round.specs.Delivered.{Delivered};
+ghost use Rattle.sig_serving.specs.Side.{view_of};
 ghost use Rattle.sig_round.specs.Rounds as handed;
 ghost use Rattle.sig_round.specs.Rounds.{Rounded};
 ghost use Rattle.sig_txnode.specs.declared.turn.Turn.{Turn};

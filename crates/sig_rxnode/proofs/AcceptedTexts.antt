@@ -1,25 +1,20 @@
 -- A token that is accepted is short, and its record is taken up again.
-use Rattle.std.proofs.Common.{◌≡◌, ◌∙◌, ap, sym, ℕ, ◌<◌, ◌≤◌, ◌^◌, List, [], ◌∷◌, length, Bool, true, false, Option, Some, None, Result, Ok, Err, refl, arith}
-use Rattle.std.specs.Prelude.{if◌then◌else◌, nat_le}
+use Rattle.std.proofs.Common.{◌≡◌, ◌∙◌, ap, ℕ, ◌<◌, ◌≤◌, ◌^◌, List, [], ◌∷◌, length, Option, Some, None, Ok, refl, arith}
 use Rattle.std.proofs.lemmas.Bool.{leb-true}
 use Rattle.sig_json.specs.declared.limits.TheConstants.{TOKEN_BYTES}
 use Rattle.sig_json.specs.Checks.{first_failing}
 use Rattle.sig_inbox.specs.declared.pair.Pair.{Pair}
-use Rattle.sig_inbox.specs.Pairs.{has_pair}
 use Rattle.sig_event.specs.declared.claims.Claims.{Claims}
 use Rattle.sig_set.specs.declared.trust.Trust.{Trust}
 use Rattle.sig_set.specs.Checks.{Fault}
-use Rattle.sig_set.specs.Judgement.{Judgement, Valid, Refused, checks, claims_of, judged, judged_by}
-use Rattle.sig_set.specs.Reading.{claims_read}
+use Rattle.sig_set.specs.Judgement.{checks, claims_of, judged_by}
 use Rattle.sig_set.proofs.ReadsClaims.{all_hold}
 use Rattle.sig_set.proofs.ValidRead.{valid_read}
 use Rattle.sig_entry.specs.Tokens.{decoded_token, token_spelling}
 use Rattle.sig_entry.specs.Tokens as tokens
 use Rattle.sig_entry.proofs.TokenLemmas.{tokens_agree}
 use Rattle.sig_fields.proofs.Exact.{agrees_exact}
-use Rattle.sig_receiver.specs.declared.heard.Heard.{Heard}
-use Rattle.sig_receiver.specs.declared.heard.Heard.TheVariants.{Accepted, Seen, NotTaken}
-use Rattle.sig_receiver.specs.Journal.{pair_of}
+use Rattle.sig_receiver.specs.declared.heard.Heard.TheVariants.{Accepted}
 use Rattle.sig_receiver.specs.Receiver.{Received, heard_at, heard_by, received_of}
 use Rattle.sig_receiver.specs.Taking.{taken_by, text_taken}
 use Rattle.sig_rxnode.specs.Records.{after_record, after_text, receiving}

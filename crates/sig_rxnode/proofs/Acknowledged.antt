@@ -1,5 +1,5 @@
 -- The pair of a token that is acknowledged stands among those of the journal's texts.
-use Rattle.std.proofs.Common.{◌≡◌, ◌∙◌, ap, sym, ℕ, List, [], ◌∷◌, ◌++◌, Bool, true, false, ◌||◌, Option, Some, None, if◌then◌else◌, refl}
+use Rattle.std.proofs.Common.{◌≡◌, ◌∙◌, ap, ℕ, List, [], ◌∷◌, ◌++◌, Bool, true, false, ◌||◌, Option, Some, None, if◌then◌else◌, refl}
 use Rattle.std.proofs.lemmas.List.Folds.{list_any-append}
 use Rattle.sig_json.specs.Checks.{first_failing}
 use Rattle.sig_inbox.specs.declared.pair.Pair.{Pair}
@@ -7,8 +7,7 @@ use Rattle.sig_inbox.specs.Pairs.{has_pair, pair_eq}
 use Rattle.sig_inbox.proofs.Distinct.{pair_decided}
 use Rattle.sig_set.specs.Checks.{Fault}
 use Rattle.sig_set.specs.Judgement.{checks, claims_of, judged_by}
-use Rattle.sig_set.specs.declared.trust.Trust.{Trust}
-use Rattle.sig_receiver.specs.declared.heard.Heard.TheVariants.{Accepted, Seen, NotTaken}
+use Rattle.sig_receiver.specs.declared.heard.Heard.TheVariants.{Accepted, Seen}
 use Rattle.sig_receiver.specs.Journal.{journal_by, pair_of, pairs_of}
 use Rattle.sig_receiver.specs.Receiver.{heard_by, nothing, received_of}
 use Rattle.sig_receiver.proofs.JournalLemmas.{known_by_distinct, pairs_of-more}

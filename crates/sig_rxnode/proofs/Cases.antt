@@ -1,6 +1,6 @@
 -- Calls that add nothing, and calls that want memory.
-use Rattle.std.proofs.Common.{◌≡◌, ◌∙◌, ap, sym, subst, inr, ℕ, ◌+◌, List, [], ◌∷◌, ◌++◌, length, Bool, true, false, Option, None, Result, Ok, Err, refl, append-nil}
-use Rattle.std.specs.Prelude.{OnErr, OnOk, IsErrOf}
+use Rattle.std.proofs.Common.{◌≡◌, ◌∙◌, ap, sym, subst, inr, ℕ, List, [], ◌∷◌, ◌++◌, Bool, true, false, Option, Result, Ok, Err, refl, append-nil}
+use Rattle.std.specs.Prelude.{OnErr, OnOk}
 use Rattle.sig_outside.specs.Disk.{Stop}
 use Rattle.sig_receiver.specs.Journal.{journal_by}
 use Rattle.sig_receiver.specs.Receiver.{Received, is_accepted, received_of}
@@ -9,7 +9,7 @@ use Rattle.sig_receiver.specs.declared.heard.Heard.TheVariants.{Accepted, Seen, 
 use Rattle.sig_receiver.proofs.KeptLemmas.{none_more}
 use Rattle.sig_store.specs.Stored.{Stored}
 use Rattle.sig_store.specs.declared.fault.NodeFault.{NodeFault}
-use Rattle.sig_store.specs.declared.fault.NodeFault.TheVariants.{Store, Full, Memory}
+use Rattle.sig_store.specs.declared.fault.NodeFault.TheVariants.{Memory}
 use Rattle.sig_rxnode.specs.Holding.{Holding, IsHolding}
 use Rattle.sig_rxnode.specs.Journals.{Adds, Causes, Passes, Writes}
 

@@ -1,5 +1,5 @@
 -- A token that is heard, over what is kept before room was made for it.
-use Rattle.std.proofs.Common.{◌≡◌, ◌∙◌, ap, sym, subst, ℕ, List, [], ◌∷◌, Bool, true, false, Option, Some, Result, refl}
+use Rattle.std.proofs.Common.{◌≡◌, ◌∙◌, ap, sym, subst, ℕ, List, [], ◌∷◌, Bool, true, Option, Some, Result}
 use Rattle.sig_outside.specs.Disk.{Stop}
 use Rattle.sig_entry.specs.Tokens.{token_spelling}
 use Rattle.sig_set.specs.declared.trust.Trust.{Trust}

@@ -1,24 +1,23 @@
 -- What adding a token's record leaves of what a node holds.
-use Rattle.std.proofs.Common.{◌≡◌, ◌∙◌, ap, sym, subst, inl, ℕ, ◌+◌, ◌<◌, ◌≤◌, List, [], ◌∷◌, ◌++◌, length, Bool, true, false, Option, Some, None, Result, Ok, Err, refl}
+use Rattle.std.proofs.Common.{◌≡◌, ◌∙◌, ap, sym, subst, inl, ℕ, ◌+◌, ◌<◌, ◌≤◌, List, [], ◌∷◌, ◌++◌, length, Bool, Option, Some, None, Result, Ok, Err, refl}
 use Rattle.std.proofs.lemmas.Bool.{false≢true}
-use Rattle.std.specs.Prelude.{⊤, OnErr, OnOk, IsErrOf, is_ok, is_some}
+use Rattle.std.specs.Prelude.{OnOk, IsErrOf, is_ok, is_some}
 use Rattle.sig_json.specs.declared.limits.TheConstants.{LAST_NUMBER}
 use Rattle.sig_outside.specs.Disk.{Stop}
 use Rattle.sig_journal.specs.declared.journal.AppendFault.{AppendFault}
 use Rattle.sig_journal.specs.declared.journal.AppendFault.TheVariants as append
-use Rattle.sig_journal.specs.Journal.{IsAtRest}
 use Rattle.sig_entry.specs.Tokens.{token_spelling}
 use Rattle.sig_receiver.specs.Receiver.{Received, nothing, received_of}
 use Rattle.sig_receiver.proofs.JournalLemmas.{joins}
-use Rattle.sig_store.specs.Appended.{AppendCauses, Breaks, HasRecord, LeavesRecord, WritesOne}
+use Rattle.sig_store.specs.Appended.{AppendCauses, HasRecord, LeavesRecord, WritesOne}
 use Rattle.sig_store.specs.Faults.{fault_of}
 use Rattle.sig_store.specs.Standing.{Durable, StandsFor}
 use Rattle.sig_store.specs.Stored.{Stored}
 use Rattle.sig_store.specs.declared.fault.NodeFault.{NodeFault}
-use Rattle.sig_store.specs.declared.fault.NodeFault.TheVariants.{Store, Full, Memory}
+use Rattle.sig_store.specs.declared.fault.NodeFault.TheVariants.{Full}
 use Rattle.sig_store.proofs.Stands.{durable_of, on_ok, stands_after, stands_broken}
 use Rattle.sig_rxnode.specs.Holding.{Holding, IsHolding}
-use Rattle.sig_rxnode.specs.Journals.{Adds, Causes, Fails, Passes, Writes}
+use Rattle.sig_rxnode.specs.Journals.{Causes, Passes, Writes}
 use Rattle.sig_rxnode.specs.Records.{receiving}
 use Rattle.sig_rxnode.proofs.Cases.{holds_same}
 use Rattle.sig_rxnode.proofs.Mapping.{leaves_on}

@@ -7,3 +7,7 @@ pub mod Hearing
 pub mod Takes
 pub mod Loads
 pub mod Acknowledged
+pub mod AddsOne
+pub mod Broke
+pub mod TurnLemmas
+pub mod HistoryLemmas

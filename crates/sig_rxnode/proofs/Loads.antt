@@ -1,10 +1,8 @@
 -- What a load of a receiver's store gives.
-use Rattle.std.proofs.Common.{◌≡◌, ◌∙◌, ap, sym, subst, inl, inr, ℕ, ◌+◌, List, [], ◌∷◌, length, Bool, true, false, Option, None, Result, Ok, Err, refl}
+use Rattle.std.proofs.Common.{◌≡◌, ◌∙◌, ap, sym, subst, inl, inr, ℕ, ◌+◌, List, length, Bool, true, false, Result, Ok, Err}
 use Rattle.std.specs.Prelude.{◌⊎◌, IfOk, IsTrue}
-use Rattle.sig_json.specs.Answers.{Answers}
 use Rattle.sig_journal.specs.declared.fault.LoadFault.{LoadFault}
-use Rattle.sig_journal.specs.declared.fault.LoadFault.TheVariants.{Memory, Store, Damaged}
-use Rattle.sig_journal.specs.declared.kind.Kind.{Kind}
+use Rattle.sig_journal.specs.declared.fault.LoadFault.TheVariants.{Memory, Store}
 use Rattle.sig_journal.specs.declared.kind.Kind.TheVariants.{Rx}
 use Rattle.sig_journal.specs.Journal.{BothTold, Open, store_with, told_store}
 use Rattle.sig_journal.specs.Store.{Told, file_number, in_file_at, pick, tells}

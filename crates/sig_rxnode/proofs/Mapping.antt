@@ -1,25 +1,20 @@
 -- The same of an answer whose value is another.
-use Rattle.std.proofs.Common.{◌≡◌, ◌∙◌, ap, sym, subst, inl, inr, ⊎_elim, ℕ, ◌+◌, ◌≤◌, List, [], ◌∷◌, length, Bool, true, false, Option, Some, None, Result, Ok, Err, refl}
-use Rattle.std.specs.Prelude.{OnErr, OnOk, IsErrOf, is_ok, is_some}
+use Rattle.std.proofs.Common.{◌≡◌, ◌∙◌, ap, inl, inr, ⊎_elim, ℕ, List, Bool, Option, Result, Ok, Err, refl}
+use Rattle.std.specs.Prelude.{IsErrOf, is_ok}
 use Rattle.sig_json.specs.Answers.{result_map}
 use Rattle.sig_outside.specs.Disk.{Stop}
 use Rattle.sig_journal.proofs.Appending.{rests_map}
 use Rattle.sig_entry.specs.Tokens.{token_spelling}
-use Rattle.sig_receiver.specs.declared.heard.Heard.{Heard}
-use Rattle.sig_receiver.specs.declared.heard.Heard.TheVariants.{Accepted}
-use Rattle.sig_receiver.specs.Journal.{journal_by}
 use Rattle.sig_set.specs.declared.trust.Trust.{Trust}
-use Rattle.sig_receiver.specs.Receiver.{Received, received_of}
+use Rattle.sig_receiver.specs.Receiver.{Received}
 use Rattle.sig_rxnode.specs.Answers.{heard_texts}
 use Rattle.sig_journal.specs.Journal.{Open}
-use Rattle.sig_store.specs.Appended.{HasRecord, LeavesRecord}
-use Rattle.sig_store.specs.Standing.{Durable}
+use Rattle.sig_store.specs.Appended.{LeavesRecord}
 use Rattle.sig_store.specs.declared.fault.NodeFault.{NodeFault}
 use Rattle.sig_store.specs.declared.fault.NodeFault.TheVariants.{Store, Full, Memory}
 use Rattle.sig_store.proofs.Stands.{on_ok}
 use Rattle.sig_rxnode.specs.Holding.{Holding}
 use Rattle.sig_rxnode.specs.Journals.{Adds, Causes, Writes}
-use Rattle.sig_rxnode.specs.Records.{receiving}
 
 pub err_back : {T U E : Type 0} (f : T → U) (r : Result T E) (e : E) → IsErrOf (result_map f r) e → IsErrOf r e
 err_back f (Ok x) e h = absurd cc

@@ -1,14 +1,13 @@
 -- What a node does with a call, by what its parts answered.
-use Rattle.std.proofs.Common.{◌≡◌, ◌∙◌, ap, sym, subst, inl, inr, ℕ, ◌+◌, List, [], ◌∷◌, ◌++◌, length, Bool, true, false, Option, Some, None, Result, Ok, Err, refl}
-use Rattle.std.proofs.lemmas.Bool.{false≢true}
-use Rattle.std.specs.Prelude.{◌⊎◌, IfOk, OnErr, IsErrOf, is_some}
+use Rattle.std.proofs.Common.{◌≡◌, ◌∙◌, ap, sym, subst, inl, ℕ, ◌+◌, List, length, Bool, true, Option, Some, None, Result, Ok, Err, refl}
+use Rattle.std.specs.Prelude.{IfOk, OnErr, IsErrOf, is_some}
 use Rattle.sig_json.specs.Answers.{result_map}
 use Rattle.sig_outside.specs.Disk.{Stop}
 use Rattle.sig_set.specs.declared.trust.Trust.{Trust}
 use Rattle.sig_receiver.specs.Receiver.{Received}
 use Rattle.sig_store.specs.Stored.{Stored}
 use Rattle.sig_store.specs.declared.fault.NodeFault.{NodeFault}
-use Rattle.sig_store.specs.declared.fault.NodeFault.TheVariants.{Store, Full, Memory}
+use Rattle.sig_store.specs.declared.fault.NodeFault.TheVariants.{Store, Memory}
 use Rattle.sig_rxnode.specs.declared.answer.RxAnswer.{RxAnswer}
 use Rattle.sig_rxnode.specs.declared.call.RxCall.{RxCall}
 use Rattle.sig_rxnode.specs.declared.journalled.Told.{Told}
@@ -18,6 +17,7 @@ use Rattle.sig_rxnode.specs.Holding.{Holding}
 use Rattle.sig_rxnode.specs.Journals.{Adds, Causes, Writes}
 use Rattle.sig_rxnode.specs.Node.{NodeView}
 use Rattle.sig_rxnode.specs.Take.{Answered, KeepsTurn, Refused, added_by}
+use Rattle.sig_rxnode.proofs.HistoryLemmas.{Took}
 use Rattle.sig_rxnode.proofs.Mapping.{adds_map, causes_map, err_back, writes_map}
 
 abbrev pub the_answer : Told → RxAnswer
@@ -34,7 +34,7 @@ on_fault P (Err f) e is h = h
 
 module _ {D : Type 0} (trust : Trust) (old : NodeView D) (trusts : trust ≡ old.rules.trust) (kept : Holding D) (turns : List RxTurn) (call : RxCall) (told : Result Told NodeFault) (result : Result RxAnswer NodeFault) (same : result ≡ result_map the_answer told) where
   abbrev new : NodeView D
-  new = record { kept = kept; rules = old.rules; turns = turns }
+  new = record { kept = kept; rules = old.rules; turns = turns; opened = old.opened }
 
   texts_same : change_of trust old.kept.state call ≡ added_by old call
   texts_same = ap (λ (t : Trust). change_of t old.kept.state call) trusts
@@ -83,6 +83,17 @@ module _ {D : Type 0} (trust : Trust) (old : NodeView D) (trusts : trust ≡ old
           (subst (λ (ts : List (List ℕ)). Causes faults ts turn old.kept kept (result_map the_answer told)) texts_same
           (causes_map (change_of trust old.kept.state call) old.kept kept the_answer faults turn told (causes whole))));
       memory = λ err.
-          let make : Holding D → List RxTurn → NodeView D = λ k ts. record { kept = k; rules = old.rules; turns = ts } in
+          let make : Holding D → List RxTurn → NodeView D = λ k ts. record { kept = k; rules = old.rules; turns = ts; opened = old.opened } in
           ap (λ k. make k turns) (same_kept old.kept.store.broken_at refl (told_fault Memory err)) ∙ ap (make old.kept) (same_turns err);
+    }
+
+    -- all of it
+    pub took_by : (told_by : D → Bool) (seen : D → List ℕ) (may_leave : D → List ℕ → Type 0) (moment : D → ℕ) (left_since : D → ℕ → List ℕ → Type 0) (stop : D → Option Stop) (short : D → Bool)
+        → IfOk told (λ t. (t.answer ≡ answer_of trust old.kept.state call) × (t.copy ≡ t.answer)) → Writes told_by seen may_leave moment left_since stop short (change_of trust old.kept.state call) old.kept kept told
+        → Took told_by seen may_leave moment left_since stop short faults old new call result
+    took_by told_by seen may_leave moment left_since stop short answer writes = record {
+      answered = answered_by answer adds;
+      writes = writes_by told_by seen may_leave moment left_since stop short writes;
+      refused = refused_by;
+      opened = refl;
     }

@@ -1,24 +1,22 @@
 -- How the records of a receiver's store are taken up.
-use Rattle.std.proofs.Common.{◌≡◌, ◌∙◌, ap, sym, subst, inl, inr, ℕ, suc, ◌+◌, ◌<◌, List, [], ◌∷◌, ◌++◌, length, take, drop, get_or, Bool, true, false, Option, Some, None, Result, Ok, Err, refl, arith, append-nil}
-use Rattle.std.proofs.lemmas.List.{map-append, take_all}
+use Rattle.std.proofs.Common.{◌≡◌, ◌∙◌, ap, sym, inl, inr, ℕ, suc, ◌+◌, ◌<◌, List, [], ◌∷◌, ◌++◌, length, take, drop, get_or, Option, Some, None, Result, Ok, Err, refl, arith}
+use Rattle.std.proofs.lemmas.List.{map-append}
 use Rattle.std.proofs.lemmas.List.Sums.{sum_by_push}
 use Rattle.std.proofs.Math.Seq.{drop-cons, take-suc}
 use Rattle.std.specs.Option.{option_map_or}
-use Rattle.std.specs.Prelude.{◌⊎◌, ⊤, IfOk}
-use Rattle.sig_json.specs.Answers.{Answers}
+use Rattle.std.specs.Prelude.{◌⊎◌, ⊤}
 use Rattle.sig_fields.specs.declared.fault.DecodeFault.{DecodeFault}
 use Rattle.sig_journal.specs.Layout.{places_of, records_size}
 use Rattle.sig_entry.specs.Tokens.{decoded_token}
 use Rattle.sig_set.specs.declared.refusal.Spot.{Spot}
 use Rattle.sig_receiver.specs.declared.take_fault.TakeFault.{TakeFault}
 use Rattle.sig_receiver.specs.declared.take_fault.TakeFault.TheVariants as take_fault
-use Rattle.sig_receiver.specs.Receiver.{Received, nothing, received_of}
+use Rattle.sig_receiver.specs.Receiver.{Received, received_of}
 use Rattle.sig_receiver.specs.Taking.{text_taken}
 use Rattle.sig_receiver.proofs.JournalLemmas.{joins}
 use Rattle.sig_receiver.proofs.KeptLemmas.{none_more}
 use Rattle.sig_store.specs.Taking.{state_after}
 use Rattle.sig_store.proofs.LoadSteps.{not_taken, place_at, taken_up}
-use Rattle.sig_rxnode.specs.declared.recording.RecordFault.{RecordFault}
 use Rattle.sig_rxnode.specs.declared.recording.RecordFault.TheVariants.{Bad}
 use Rattle.sig_rxnode.specs.Records.{after_record, after_text, receiving, text_by, text_in, text_or_none, texts_of}
 

@@ -1,7 +1,7 @@
 -- What a node holds: its store, what is kept, and the token texts of its journal.
 use Rattle.std.specs.Prelude.{◌≡◌, ℕ, List, Bool, None}
 use Rattle.sig_journal.specs.Journal.{IsAtRest}
-use Rattle.sig_receiver.specs.Receiver.{Received, nothing, received, received_of}
+use Rattle.sig_receiver.specs.Receiver.{Received, nothing, received_of}
 use Rattle.sig_store.specs.Standing.{StandsFor}
 use Rattle.sig_store.specs.Stored.{Stored}
 use Rattle.sig_rxnode.specs.Records.{receiving}

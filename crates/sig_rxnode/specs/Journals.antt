@@ -1,5 +1,5 @@
 -- What a call leaves of what a node holds, and why it refuses.
-use Rattle.std.specs.Prelude.{◌≡◌, ◌⊎◌, ℕ, ◌+◌, ◌<◌, List, [], ◌∷◌, ◌++◌, length, Bool, true, Option, Some, None, is_some, Result, Err, IsErrOf, OnErr, OnOk}
+use Rattle.std.specs.Prelude.{◌≡◌, ◌⊎◌, ℕ, ◌<◌, List, [], ◌∷◌, ◌++◌, Bool, Option, None, Result, Err, IsErrOf, OnErr, OnOk}
 use Rattle.sig_json.specs.declared.limits.TheConstants.{LAST_NUMBER}
 use Rattle.sig_outside.specs.Disk.{Stop}
 use Rattle.sig_entry.specs.Tokens.{token_spelling}
@@ -11,6 +11,7 @@ use Rattle.sig_store.specs.declared.fault.NodeFault.{NodeFault}
 use Rattle.sig_store.specs.declared.fault.NodeFault.TheVariants.{Store, Full, Memory}
 use Rattle.sig_rxnode.specs.Holding.{Holding}
 use Rattle.sig_rxnode.specs.Records.{receiving}
+use Rattle.sig_rxnode.specs.Turns.{end_after}
 
 -- at Ok these texts were added to the journal and taken in; after a fault what is kept is as before
 pub record Adds {D T E : Type 0} (texts : List (List ℕ)) (old new : Holding D) (result : Result T E) : Type 0 where
@@ -30,7 +31,7 @@ pub record Writes {D T : Type 0} (told : D → Bool) (seen : D → List ℕ) (ma
 
 -- the end that the journal would have with this text's record
 abbrev pub end_with : {D : Type 0} → Holding D → List ℕ → ℕ
-end_with holding text = holding.store.journal.end + 5 + length (token_spelling text)
+end_with holding text = end_after holding.store.journal.end text
 
 -- a text is to be added, and the journal would end with it at this place, past 2^62
 pub record Passes {D : Type 0} (old : Holding D) (texts : List (List ℕ)) (n : ℕ) : Type 0 where

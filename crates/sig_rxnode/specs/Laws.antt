@@ -7,6 +7,8 @@ use Rattle.sig_receiver.specs.declared.heard.Heard.{Heard}
 use Rattle.sig_receiver.specs.declared.heard.Heard.TheVariants.{Accepted, Seen, NotTaken}
 use Rattle.sig_receiver.specs.Journal.{journal_by, pair_of, pairs_of}
 use Rattle.sig_receiver.specs.Receiver.{Received, heard_at, nothing, received_of}
+use Rattle.sig_rxnode.specs.declared.turn.RxTurn.{RxTurn}
+use Rattle.sig_rxnode.specs.Turns.{after_turns, changes_of}
 
 -- a token was accepted or had been seen
 abbrev pub is_acknowledged : Heard → Bool
@@ -20,3 +22,7 @@ AcknowledgedStand =
     (trust : Trust) (principal named : Option (List ℕ)) (texts : List (List ℕ)) (text : List ℕ)
     → is_acknowledged (heard_at trust principal named (received_of nothing texts) text) ≡ true
     → has_pair (pair_of (claims_of text)) (pairs_of (journal_by (heard_at trust principal named (received_of nothing texts) text) texts text)) ≡ true
+
+-- whatever the turns are, what is kept after them is that of their texts over what was kept before
+abbrev pub TurnsAreAHistory : Type 0
+TurnsAreAHistory = (trust : Trust) (base : Received) (turns : List RxTurn) → after_turns trust base turns ≡ received_of base (changes_of trust base turns)

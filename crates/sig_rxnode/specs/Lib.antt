@@ -7,4 +7,6 @@ pub mod Node
 pub mod Parts
 pub mod States
 pub mod Take
+pub mod Told
+pub mod Turns
 pub mod Laws

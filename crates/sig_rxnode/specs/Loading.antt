@@ -1,11 +1,10 @@
 -- What a load of a receiver's store gives.
-use Rattle.std.specs.Prelude.{◌≡◌, ◌⊎◌, List, Bool, ℕ, [], None, Result, Ok, Err, IfOk}
+use Rattle.std.specs.Prelude.{◌≡◌, ◌⊎◌, Result, Ok, Err, IfOk}
 use Rattle.sig_journal.specs.declared.fault.LoadFault.{LoadFault}
 use Rattle.sig_journal.specs.declared.fault.LoadFault.TheVariants.{Memory, Store}
 use Rattle.sig_journal.specs.declared.loaded.Loaded.{Loaded}
 use Rattle.sig_journal.specs.declared.loaded.LoadRefused.{LoadRefused}
 use Rattle.sig_journal.specs.Store.{Told}
-use Rattle.sig_receiver.specs.Receiver.{Received}
 use Rattle.sig_store.specs.Taking.{loaded}
 use Rattle.sig_rxnode.specs.Holding.{Holding}
 use Rattle.sig_rxnode.specs.Records.{receiving, texts_of}

@@ -1,14 +1,14 @@
 -- What a node does with a call.
-use Rattle.std.specs.Prelude.{◌≡◌, ◌⊎◌, ℕ, ◌+◌, List, [], ◌∷◌, ◌++◌, length, true, None, is_some, Result, Ok, Err, IfOk, IsErrOf}
+use Rattle.std.specs.Prelude.{◌≡◌, ◌⊎◌, ℕ, ◌+◌, List, length, true, None, is_some, Result, Err, IfOk, IsErrOf}
 use Rattle.sig_store.specs.declared.fault.NodeFault.{NodeFault}
-use Rattle.sig_store.specs.declared.fault.NodeFault.TheVariants.{Store, Full, Memory}
+use Rattle.sig_store.specs.declared.fault.NodeFault.TheVariants.{Store, Memory}
 use Rattle.sig_rxnode.specs.declared.answer.RxAnswer.{RxAnswer}
 use Rattle.sig_rxnode.specs.declared.call.RxCall.{RxCall}
 use Rattle.sig_rxnode.specs.declared.turn.RxTurn.{RxTurn}
 use Rattle.sig_rxnode.specs.Answers.{answer_of, change_of}
-use Rattle.sig_rxnode.specs.Holding.{Holding}
 use Rattle.sig_rxnode.specs.Journals.{Adds, Causes}
 use Rattle.sig_rxnode.specs.Node.{NodeView}
+use Rattle.sig_rxnode.specs.Turns.{with_turn}
 
 -- the token texts that a call adds to the journal of a node
 abbrev pub added_by : {D : Type 0} → NodeView D → RxCall → List (List ℕ)
@@ -22,10 +22,7 @@ pub record Answered {D : Type 0} (call : RxCall) (old new : NodeView D) (result 
 
 -- a turn is kept last, but at want of memory
 abbrev pub KeepsTurn : List RxTurn → List RxTurn → ℕ → RxCall → Result RxAnswer NodeFault → Type 0
-KeepsTurn old new link call (Ok told) = new ≡ old ++ record { link = link; call = call; result = Ok told } ∷ []
-KeepsTurn old new link call (Err Store) = new ≡ old ++ record { link = link; call = call; result = Err Store } ∷ []
-KeepsTurn old new link call (Err (Full n)) = new ≡ old ++ record { link = link; call = call; result = Err (Full n) } ∷ []
-KeepsTurn old new link call (Err Memory) = new ≡ old
+KeepsTurn old new link call result = new ≡ with_turn old link call result
 
 -- why a call is refused: a broken node answers so until it is loaded again; want of memory changes nothing
 pub record Refused {D : Type 0} (faults : D → ℕ) (call : RxCall) (old new : NodeView D) (result : Result RxAnswer NodeFault) : Type 0 where

@@ -7,7 +7,10 @@
 //! records. Promised (`specs/Take`): `take` answers by the table (`specs/Answers`); a token that is answered `Accepted`
 //! stands in the journal, so that no crash takes it away, and has had its effect; a crash at any moment of a call leaves a
 //! store that loads to the state before or after it; a refusal has its cause, and changes nothing. What is kept is always
-//! that of the token texts in the journal (`laws`). Left out: links, routes and what is fetched of a peer.
+//! that of the token texts in the journal (`laws`). The turns since the node was loaded, or since `RxNode::open_watch` opened
+//! its watch, are one history (`specs/Node`): each result is what the table says after the turns before it, over a journal
+//! that ends where they left it; none was told that the store failed before the turn in which it did, and each was from then
+//! on; and the texts that were added since are those of the turns. Left out: links, routes and what is fetched of a peer.
 #![tactic(auto)]
 
 mod answer;
@@ -19,6 +22,7 @@ mod node;
 mod recording;
 mod rules;
 mod state;
+mod taker;
 mod threads;
 mod turn;
 
@@ -28,4 +32,5 @@ pub use node::RxNode;
 pub use rules::{Peer, Principal, RxRules};
 pub use sig_store::NodeFault as RxFault;
 pub use state::RxState;
+pub use taker::RxTaker;
 pub use turn::RxTurn;

@@ -73,6 +73,8 @@ pub fn load<D: Disk>(alloc: Global, a: D, b: D) -> Result<Journalled<D>, LoadRef
         × OnlyRead D.told D.seen D.may_leave D.moment D.left_since D.faults b (pick n.store.journal.in_b n.store.journal.other n.store.journal.written))
         (λ r. OnlyRead D.told D.seen D.may_leave D.moment D.left_since D.faults a r.a × OnlyRead D.told D.seen D.may_leave D.moment D.left_since D.faults b r.b) }
     ensures store { IfErr result (λ r. r.fault ≡ load_fault.Store → Rose (D.faults a) (D.faults r.a) ⊎ Rose (D.faults b) (D.faults r.b)) }
+    ensures steady { IfOk result (λ n. (D.faults (pick n.store.journal.in_b n.store.journal.written n.store.journal.other) ≡ D.faults a) × (D.faults (pick n.store.journal.in_b n.store.journal.other n.store.journal.written) ≡ D.faults b)) }
+    ensures steady_err { IfErr result (λ r. (r.fault ≡ load_fault.Store → ⊥) → (D.faults r.a ≡ D.faults a) × (D.faults r.b ≡ D.faults b)) }
 {
     match sig_journal::load(alloc, a, b, Kind::Rx) {
         Ok(loaded) => taken_up(alloc, loaded),

@@ -1,4 +1,4 @@
-ghost use Rattle.std.specs.Prelude.{◌≡◌, ◌⊎◌, ◌+◌, ◌<◌, [], IfErr, IfOk, IsTrue, MatchResult, None, length, vec_len, vec_capacity};
+ghost use Rattle.std.specs.Prelude.{◌≡◌, ◌⊎◌, ◌+◌, ◌<◌, [], IfErr, IfOk, IsTrue, MatchResult, None, is_some, length, true, vec_len, vec_capacity};
 ghost use Rattle.sig_json.specs.Answers.{result_map};
 ghost use Rattle.sig_outside.specs.Causes.{Rose};
 ghost use Rattle.sig_outside.specs.Disk.{StopsAfter};
@@ -6,7 +6,7 @@ ghost use Rattle.sig_journal.specs.declared.fault.LoadFault.TheVariants as load_
 ghost use Rattle.sig_journal.specs.declared.kind.Kind.TheVariants.{Rx};
 ghost use Rattle.sig_journal.specs.OnlyRead.{OnlyRead};
 ghost use Rattle.sig_journal.specs.Store.{pick, tells};
-ghost use Rattle.sig_store.specs.Stored.{SameJournal};
+ghost use Rattle.sig_store.specs.Stored.{IsStored, SameJournal};
 ghost use Rattle.sig_rxnode.specs.Holding.{IsHolding};
 ghost use Rattle.sig_rxnode.specs.Parts.{holding_of};
 ghost use Rattle.sig_rxnode.specs.Take.{KeepsTurn};
@@ -21,12 +21,14 @@ use sig_set::PreparedTrust;
 use std::alloc::Global;
 use std::marker::Model;
 
-/// A receiver's node. Contracts see what it holds, its settings, and the turns since it was loaded.
+/// A receiver's node. Contracts see what it holds, its settings, and since it was loaded or its watch was opened: the turns,
+/// and how many texts stood in the journal before them.
 pub struct RxNode<D: Disk> {
     kept: Journalled<D>,
     rules: RxRules,
     trust: PreparedTrust,
     turns: Vec<RxTurn>,
+    opened: usize,
 }
 
 impl<D: Disk> Model for RxNode<D> {
@@ -35,15 +37,16 @@ impl<D: Disk> Model for RxNode<D> {
 
     ghost Value = { NodeView D };
 
-    ghost view = { λ n. record { kept = holding_of n.kept; rules = n.rules; turns = n.turns.items } };
+    ghost view = { λ n. record { kept = holding_of n.kept; rules = n.rules; turns = n.turns.items; opened = n.opened } };
 
-    ghost invariant = { λ n. IsNode D.told D.seen D.may_leave (holding_of n.kept) n.trust n.rules };
+    ghost invariant = { λ n. IsNode D.told D.seen D.may_leave (record { kept = holding_of n.kept; rules = n.rules; turns = n.turns.items; opened = n.opened }) n.trust };
 }
 
 impl<D: Disk> RxNode<D> {
+    ghost use Rattle.sig_store.specs.Appended.{WritesOne};
     ghost use Rattle.sig_rxnode.specs.Journals.{Writes};
     ghost use Rattle.sig_rxnode.specs.Loading.{LoadsTold};
-    ghost use Rattle.sig_rxnode.specs.Node.{kept_by};
+    ghost use Rattle.sig_rxnode.specs.Node.{IsHistory, base_of, begun, kept_by};
     ghost use Rattle.sig_rxnode.specs.States.{held};
     ghost use Rattle.sig_rxnode.specs.Take.{Answered, Refused, added_by};
 
@@ -60,6 +63,9 @@ impl<D: Disk> RxNode<D> {
             × OnlyRead D.told D.seen D.may_leave D.moment D.left_since D.faults b (pick n.kept.store.journal.in_b n.kept.store.journal.other n.kept.store.journal.written))
             (λ r. OnlyRead D.told D.seen D.may_leave D.moment D.left_since D.faults a r.a × OnlyRead D.told D.seen D.may_leave D.moment D.left_since D.faults b r.b) }
         ensures store { IfErr result (λ r. r.fault ≡ load_fault.Store → Rose (D.faults a) (D.faults r.a) ⊎ Rose (D.faults b) (D.faults r.b)) }
+        ensures opened { IfOk result (λ n. n.opened ≡ length n.kept.entries) }
+        ensures steady { IfOk result (λ n. (D.faults (pick n.kept.store.journal.in_b n.kept.store.journal.written n.kept.store.journal.other) ≡ D.faults a) × (D.faults (pick n.kept.store.journal.in_b n.kept.store.journal.other n.kept.store.journal.written) ≡ D.faults b)) }
+        ensures steady_err { IfErr result (λ r. (r.fault ≡ load_fault.Store → ⊥) → (D.faults r.a ≡ D.faults a) × (D.faults r.b ≡ D.faults b)) }
     {
         match load(alloc, a, b) {
             Ok(kept) => node_of(alloc, kept, rules),
@@ -79,6 +85,11 @@ impl<D: Disk> RxNode<D> {
         ensures writes { Writes D.told D.seen D.may_leave D.moment D.left_since D.stop D.short (added_by self.old call.now) self.old.kept self.new.kept result }
         ensures refused { Refused D.faults call.now self.old self.new result }
         ensures holds { IsHolding D.told D.seen D.may_leave self.old.kept × IsHolding D.told D.seen D.may_leave self.new.kept }
+        ensures files { WritesOne D.told self.old.kept.store.journal self.new.kept.store.journal }
+
+        // The turn adds to the history, and leaves where it began.
+        ensures opened { self.new.opened ≡ self.old.opened }
+        ensures base { base_of self.new ≡ base_of self.old }
     {
         let copied = call.copy(self.kept.alloc)?;
         self.turns.reserve(1)?;
@@ -87,11 +98,32 @@ impl<D: Disk> RxNode<D> {
         keep_turn(&mut self.turns, link, copied, told)
     }
 
+    /// Opens a watch of a node that isn't broken: from now on its base is what is kept now, and it has no turn. It takes no
+    /// memory.
+    pub fn open_watch(&mut self)
+        requires { self.old.kept.store.broken_at ≡ None }
+        ensures { self.new ≡ begun self.old }
+    {
+        self.opened = self.kept.entries.len();
+        self.turns = Vec::new(self.kept.alloc);
+    }
+
+    /// The settings by which calls are answered.
+    pub fn rules(&self) -> &RxRules
+        ensures { result.now ≡ self.now.rules }
+    {
+        &self.rules
+    }
+
     /// How many turns were kept when the disk failed, the one in which it did included; none exactly where the node isn't
     /// broken. It takes no memory.
     pub fn broken_at(&self) -> Option<u64>
         ensures at { result ≡ self.now.kept.store.broken_at }
+        ensures broken { is_some result ≡ self.now.kept.store.journal.broken }
+
+        // What holds of every node.
         ensures holds { IsHolding D.told D.seen D.may_leave self.now.kept }
+        ensures history { IsHistory self.now }
     {
         self.kept.store.broken_at()
     }
@@ -105,6 +137,7 @@ impl<D: Disk> RxNode<D> {
         ensures other_stays { OnlyRead D.told D.seen D.may_leave D.moment D.left_since D.faults self.old.kept.store.journal.other self.new.kept.store.journal.other }
         ensures journal { SameJournal self.old.kept.store self.new.kept.store }
         ensures same { (self.new.kept.state ≡ self.old.kept.state) × (self.new.kept.entries ≡ self.old.kept.entries) × (self.new.rules ≡ self.old.rules) × (self.new.turns ≡ self.old.turns) }
+        ensures opened { self.new.opened ≡ self.old.opened }
     {
         self.kept.store.stop_after(calls, fill);
     }
@@ -119,7 +152,7 @@ impl<D: Disk> RxNode<D> {
         })
     }
 
-    /// The turns since the node was loaded, in order.
+    /// The turns since the watch was opened, or the node was loaded, in order.
     pub fn turns(&self) -> &[RxTurn]
         ensures { result.now ≡ self.now.turns }
     {
@@ -133,16 +166,20 @@ impl<D: Disk> RxNode<D> {
         self.kept.entries.as_slice()
     }
 
-    /// Both files, the first and the second. It takes no memory.
+    /// Both files, the first and the second. They stand for what is kept as the node's store did, and where the node is broken,
+    /// one of them has counted a fault. It takes no memory.
     pub fn into_disks(self) -> (D, D)
         ensures files { result ≡ (pick self.kept.store.journal.in_b self.kept.store.journal.written self.kept.store.journal.other, pick self.kept.store.journal.in_b self.kept.store.journal.other self.kept.store.journal.written) }
         ensures holds { IsHolding D.told D.seen D.may_leave self.kept }
+        ensures stored { IsStored D.told D.seen D.may_leave self.kept.store }
+        ensures counted { is_some self.kept.store.broken_at ≡ true → (0 < D.faults self.kept.store.journal.written) ⊎ (0 < D.faults self.kept.store.journal.other) }
     {
         let RxNode {
             kept,
             rules: _,
             trust: _,
             turns: _,
+            opened: _,
         } = self;
         disks_of(kept)
     }
@@ -154,16 +191,19 @@ fn node_of<D: Disk>(
     kept: Journalled<D>,
     rules: RxRules,
 ) -> Result<RxNode<D>, LoadRefused<D>>
-    requires { IsHolding D.told D.seen D.may_leave (holding_of kept) }
-    ensures made { IfOk result (λ n. n ≡ record { kept = holding_of kept; rules = rules; turns = [] }) }
+    requires holds { IsHolding D.told D.seen D.may_leave (holding_of kept) }
+    requires fresh { (kept.store.broken_at ≡ None) × (kept.store.journal.kind ≡ Rx) }
+    ensures made { IfOk result (λ n. n ≡ record { kept = holding_of kept; rules = rules; turns = []; opened = length kept.entries.items }) }
     ensures refused { IfErr result (λ r. (r.fault ≡ load_fault.Memory) × (r.a ≡ pick kept.store.journal.in_b kept.store.journal.written kept.store.journal.other) × (r.b ≡ pick kept.store.journal.in_b kept.store.journal.other kept.store.journal.written)) }
 {
+    let opened = kept.entries.len();
     match PreparedTrust::of(alloc, &rules.trust) {
         Ok(trust) => Ok(RxNode {
             kept,
             rules,
             trust,
             turns: Vec::new(alloc),
+            opened,
         }),
         Err(_) => {
             let (a, b) = disks_of(kept);
@@ -177,7 +217,9 @@ fn node_of<D: Disk>(
 }
 
 fn disks_of<D: Disk>(kept: Journalled<D>) -> (D, D)
-    ensures { result ≡ (pick kept.store.journal.in_b kept.store.journal.written kept.store.journal.other, pick kept.store.journal.in_b kept.store.journal.other kept.store.journal.written) }
+    ensures files { result ≡ (pick kept.store.journal.in_b kept.store.journal.written kept.store.journal.other, pick kept.store.journal.in_b kept.store.journal.other kept.store.journal.written) }
+    ensures stored { IsStored D.told D.seen D.may_leave kept.store }
+    ensures counted { is_some kept.store.broken_at ≡ true → (0 < D.faults kept.store.journal.written) ⊎ (0 < D.faults kept.store.journal.other) }
 {
     let Journalled {
         alloc: _,
@@ -185,6 +227,8 @@ fn disks_of<D: Disk>(kept: Journalled<D>) -> (D, D)
         entries: _,
         store,
     } = kept;
+    // What a store leaves rests on what holds of every store.
+    let _ = store.broken_at();
     store.into_disks()
 }
 

@@ -1,4 +1,4 @@
-pub mod ReadingLemmas
+pub mod SettingsLemmas
 pub mod OpeningLemmas
 pub mod RunLemmas
 pub mod ServingLemmas

@@ -1,98 +1,47 @@
--- What the outside tells of files that are opened, loaded and put back.
-use Rattle.std.proofs.Common.{◌≡◌, ◌∙◌, ℕ, ◌<◌, Bool, true, false, List, Option, Some, None, Ok, Err, inl, inr, refl, ap, subst, arith}
-use Rattle.std.specs.Prelude.{◌⊎◌, IsTrue}
-use Rattle.sig_outside.specs.Causes.{Rose}
-use Rattle.sig_links.specs.Told.{Gathers, stored}
-use Rattle.sig_journal.specs.declared.fault.LoadFault.{LoadFault}
-use Rattle.sig_journal.specs.declared.fault.LoadFault.TheVariants as load
-use Rattle.sig_txnode.specs.Loaded.{GivesState}
-use Rattle.sig_txnode.specs.Node.{NodeView}
-use Rattle.sig_serve.specs.declared.ending.ServeEnd.{ServeEnd}
-use Rattle.sig_serve.specs.declared.ending.ServeEnd.TheVariants.{Done, SettingsFailed, Refused, StoreFailed, Damaged, NetworkFailed, Disagree, Memory}
-use Rattle.sig_serve.specs.Ends.{HaltsStore, IfBoth, of_load, state_of}
-use Rattle.sig_serve.specs.Opening.{IsToldBy, Opens}
-use Rattle.sig_serve.specs.Stays.{TellsSame}
+-- A transmitter's node between the files that are opened and those that are put back.
+use Rattle.std.proofs.Common.{◌≡◌, ℕ, Bool, true, false, List, [], ◌∷◌, Option, Some, None, Result, Ok, Err, if◌then◌else◌, sym}
+use Rattle.std.specs.Prelude.{IsTrue}
+use Rattle.sig_fields.specs.declared.fault.DecodeFault.{DecodeFault}
+use Rattle.sig_history.specs.Owed.{Sum, sum_of}
+use Rattle.sig_history.specs.Sound.{is_fitting}
+use Rattle.sig_history.specs.Whole.{IsWhole}
+use Rattle.sig_journal.specs.declared.kind.Kind.TheVariants.{Tx}
+use Rattle.sig_terms.specs.declared.fact.Fact.{Fact}
 use Rattle.sig_terms.specs.declared.rules.Rules.{Rules}
+use Rattle.sig_txnode.specs.Loaded.{Begins}
+use Rattle.sig_txnode.specs.Node.{IsNode, NodeView, first_file, second_file}
+use Rattle.sig_txnode.specs.Records.{after_record, sending}
+use Rattle.sig_opening.specs.Files.{IsToldBy}
+use Rattle.sig_opening.proofs.FilesLemmas.{both_told, puts_back, told_on}
+use Rattle.sig_serve.specs.Closing.{FilesTell, with_fact}
+use Rattle.sig_serve.specs.Ends.{state_of}
+use Rattle.sig_serve.specs.Opening.{Opens}
 
--- ---- one file
-
-pub stored_true : (told : Bool) (seen : List ℕ) → IsTrue told → stored told seen ≡ Some seen
-stored_true true seen h = refl
-stored_true false seen h = absurd cc
-
--- a file that was told is told the same by a disk that tells it so
-pub told_stored : {D : Type 0} (told : D → Bool) (seen : D → List ℕ) (file : Option (List ℕ)) (disk : D) → IsToldBy told seen file disk → TellsSame file (stored (told disk) (seen disk))
-told_stored told seen None disk h = tt
-told_stored told seen (Some bytes) disk h = stored_true (told disk) (seen disk) h.0 ∙ ap (λ (s : List ℕ). Some s) h.1
-
--- a disk that tells as another did
-pub told_kept : {D : Type 0} (told : D → Bool) (seen : D → List ℕ) (b : Bool) (bytes : List ℕ) (disk : D) → told disk ≡ b → seen disk ≡ bytes → IsToldBy told seen (stored b bytes) disk
-told_kept told seen true bytes disk same seen_same = (same, seen_same)
-told_kept told seen false bytes disk same seen_same = tt
-
-pub told_as : {D : Type 0} (told : D → Bool) (seen : D → List ℕ) (file now : Option (List ℕ)) (disk : D) → TellsSame file now → IsToldBy told seen now disk → IsToldBy told seen file disk
-told_as told seen None now disk same h = tt
-told_as told seen (Some bytes) now disk same h = subst (λ (o : Option (List ℕ)). IsToldBy told seen o disk) same h
-
--- ---- both
-
-pub both_as : (a b x y : Option (List ℕ)) (P : List ℕ → List ℕ → Type 0) → TellsSame a x → TellsSame b y → IfBoth x y P → IfBoth a b P
-both_as None b x y P p q h = tt
-both_as (Some s) None x y P p q h = tt
-both_as (Some s) (Some t) x y P p q h =
-    subst (λ (o : Option (List ℕ)). IfBoth (Some s) o P) q (subst (λ (o : Option (List ℕ)). IfBoth o y P) p h)
-
-pub both_stored : (p q : Bool) (s t : List ℕ) (P : List ℕ → List ℕ → Type 0) → (IsTrue p → IsTrue q → P s t) → IfBoth (stored p s) (stored q t) P
-both_stored true true s t P h = h refl refl
-both_stored true false s t P h = tt
-both_stored false q s t P h = tt
-
--- ---- a store
-
-pub opens_as : {D : Type 0} (told : D → Bool) (seen : D → List ℕ) (rules : Rules) (a b x y : Option (List ℕ)) (node : NodeView D) → TellsSame a x → TellsSame b y
-    → Opens told seen rules x y node → Opens told seen rules a b node
-opens_as told seen rules a b x y node p q h = record {
-  rules_same = h.rules_same;
-  whole = h.whole;
-  state = both_as a b x y (λ s t. state_of s t ≡ Ok node.state) p q h.state;
-  sound = h.sound;
-  file_a = told_as told seen a x _ p h.file_a;
-  file_b = told_as told seen b y _ q h.file_b;
+-- a node that was loaded stands for what its files told
+pub opens_by : {D : Type 0} (told : D → Bool) (seen : D → List ℕ) (may_leave : D → List ℕ → Type 0) (rules : Rules) (a b : D) (node : NodeView D)
+    → (IsTrue (told a) → IsTrue (told b) → state_of (seen a) (seen b) ≡ Ok node.state) → Begins told seen may_leave rules node → IsWhole node.state
+    → told (first_file node) ≡ told a → seen (first_file node) ≡ seen a → told (second_file node) ≡ told b → seen (second_file node) ≡ seen b
+    → (first second : Option (List ℕ)) → IsToldBy told seen first a → IsToldBy told seen second b → Opens told seen rules first second node
+opens_by told seen may_leave rules a b node stands begins whole told_a seen_a told_b seen_b = λ first second p q. record {
+  rules_same = begins.same_rules;
+  whole = begins.whole;
+  state = both_told told seen first second a b (λ s t. state_of s t ≡ Ok node.state) p q stands;
+  sound = whole;
+  file_a = told_on told seen first a (first_file node) told_a seen_a p;
+  file_b = told_on told seen second b (second_file node) told_b seen_b q;
 }
 
-pub halts_as : (end : ServeEnd) (a b x y : Option (List ℕ)) (before between now : ℕ) → TellsSame a x → TellsSame b y → between ≡ before → HaltsStore end x y between now → HaltsStore end a b before now
-halts_as StoreFailed a b x y before between now p q same h = subst (λ (n : ℕ). Rose n now) same h
-halts_as (Damaged file at) a b x y before between now p q same h = both_as a b x y (λ s t. state_of s t ≡ Err (load.Damaged file at)) p q h
-halts_as Memory a b x y before between now p q same h = tt
-halts_as Done a b x y before between now p q same h = absurd h
-halts_as SettingsFailed a b x y before between now p q same h = absurd h
-halts_as (Refused member) a b x y before between now p q same h = absurd h
-halts_as NetworkFailed a b x y before between now p q same h = absurd h
-halts_as (Disagree differ) a b x y before between now p q same h = absurd h
+-- a record that was taken up is that of a fact
+fits_one : (state next : Sum) (f : Fact) (b : Bool) → (if b then Some (sum_of state (f ∷ [])) else None) ≡ Some next → next ≡ sum_of state (f ∷ [])
+fits_one state next f true is = sym cc
+fits_one state next f false is = absurd cc
 
--- the counts of both disks were added; one of them had risen from none
-pub risen_either : (before between now first second : ℕ) → (0 < first) ⊎ (0 < second) → Gathers before between first → Gathers between now second → Rose before now
-risen_either before between now first second (inl some) p q = omega (arith, some, p.0, p.1, q.0, q.1)
-risen_either before between now first second (inr some) p q = omega (arith, some, p.0, p.1, q.0, q.1)
+taken_fact : (state next : Sum) (d : Result Fact DecodeFault) → after_record state d ≡ Some next → (f : Fact) × (next ≡ with_fact state f)
+taken_fact state next (Ok f) is = (f, fits_one state next f (is_fitting state f) is)
+taken_fact state next (Err e) is = absurd cc
 
-some_of_rose : (before now : ℕ) → before ≡ 0 → Rose before now → 0 < now
-some_of_rose before now none rose = omega (arith, none, rose)
-
--- why a store wasn't loaded
-pub load_halts : (fault : LoadFault) (told_a told_b : Bool) (a b : List ℕ) (faults_a faults_b now_a now_b before between now : ℕ)
-    → (IsTrue told_a → IsTrue told_b → GivesState (state_of a b) (Err fault))
-    → (fault ≡ load.Store → Rose faults_a now_a ⊎ Rose faults_b now_b) → faults_a ≡ 0 → faults_b ≡ 0 → Gathers before between now_a → Gathers between now now_b
-    → HaltsStore (of_load fault) (stored told_a a) (stored told_b b) before now
-load_halts load.Store told_a told_b a b faults_a faults_b now_a now_b before between now gives store none_a none_b p q =
-    elim (store refl) as (λ h. Rose before now) [
-      | inl rose ↦ risen_either before between now now_a now_b (inl (some_of_rose faults_a now_a none_a rose)) p q
-      | inr rose ↦ risen_either before between now now_a now_b (inr (some_of_rose faults_b now_b none_b rose)) p q
-    ]
-load_halts load.Memory told_a told_b a b faults_a faults_b now_a now_b before between now gives store none_a none_b p q = tt
-load_halts (load.Damaged file at) told_a told_b a b faults_a faults_b now_a now_b before between now gives store none_a none_b p q =
-    both_stored told_a told_b a b (λ s t. state_of s t ≡ Err (load.Damaged file at)) (λ p q. is_damaged file at a b (gives p q))
-  where
-    is_damaged : (file at : ℕ) (a b : List ℕ) → GivesState (state_of a b) (Err (load.Damaged file at)) → state_of a b ≡ Err (load.Damaged file at)
-    is_damaged file at a b (inl memory) = absurd cc
-    is_damaged file at a b (inr (inl store)) = absurd cc
-    is_damaged file at a b (inr (inr told)) = told
+-- what the files of a node tell
+pub node_tells : {D : Type 0} (told : D → Bool) (seen : D → List ℕ) (may_leave : D → List ℕ → Type 0) (reads_now : (file : D) → IsTrue (told file) → may_leave file (seen file))
+    → (node : NodeView D) → IsNode told seen may_leave node → FilesTell told seen node
+node_tells told seen may_leave reads_now node kept = λ fails broken.
+    puts_back sending with_fact Tx told seen may_leave reads_now (λ state payload next is. taken_fact state next _ is) node.store node.state fails kept.kind kept.stands broken

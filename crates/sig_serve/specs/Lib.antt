@@ -1,6 +1,4 @@
-pub mod Reading
 pub mod Ends
-pub mod Stays
 pub mod Opening
 pub mod Watches
 pub mod Closing

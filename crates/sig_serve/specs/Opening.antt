@@ -1,13 +1,10 @@
 -- A store that was opened.
-use Rattle.std.specs.Prelude.{◌≡◌, ℕ, List, Bool, IsTrue, Option, None, IfSome}
+use Rattle.std.specs.Prelude.{◌≡◌, ℕ, List, Bool, Option, None}
 use Rattle.sig_terms.specs.declared.rules.Rules.{Rules}
 use Rattle.sig_history.specs.Whole.{IsWhole}
 use Rattle.sig_txnode.specs.Node.{NodeView, first_file, second_file}
+use Rattle.sig_opening.specs.Files.{IsToldBy}
 use Rattle.sig_serve.specs.Ends.{StandsForState}
-
--- where a file was told, its disk tells it
-abbrev pub IsToldBy : {D : Type 0} → (D → Bool) → (D → List ℕ) → Option (List ℕ) → D → Type 0
-IsToldBy told seen file disk = IfSome file (λ bytes. IsTrue (told disk) × (seen disk ≡ bytes))
 
 -- the node of a store of these two files, as they were told, by these rules: its state is what the store stands for, and that of
 -- a sound history

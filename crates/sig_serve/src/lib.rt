@@ -7,21 +7,18 @@
 //!     place -> door -> watch, watch, .. -> door given back -> files given back -> end
 //! ```
 //!
-//! It stands on `sig_links` for the outside, on `sig_txsettings` for the settings, on `sig_txnode` for the node over a store,
-//! and on `sig_txwatch` for a watch. Promised: each end has its cause, by the outside's counts or by what the settings and the
-//! store tell; what is opened is given back before the end, on every path; and where the store is told, what is put back tells
-//! what it told before with the facts of this run, which are those of the turns of its links. Left out: links that are served
-//! at the same time, and that a link comes.
+//! It stands on `sig_opening` for what is opened and given back, on `sig_txsettings` for the settings, on `sig_txnode` for the
+//! node over a store, and on `sig_txwatch` for a watch. Promised: each end has its cause, by the outside's counts or by what
+//! the settings and the store tell; what is opened is given back before the end, on every path; and where the store is told,
+//! what is put back tells what it told before with the facts of this run, which are those of the turns of its links. Left out:
+//! links that are served at the same time, and that a link comes.
 #![tactic(auto)]
 
-mod ending;
 mod opening;
-mod reading;
 mod serving;
 mod settings;
-mod threads;
 mod watches;
 
-pub use ending::ServeEnd;
 pub use serving::serve;
-pub use sig_txwatch::Differ;
+pub use sig_opening::ServeEnd;
+pub use sig_serving::Differ;

@@ -1,21 +1,21 @@
 //! A store by its name: its files are opened and loaded, and given back.
 
-ghost use Rattle.std.specs.Prelude.{◌≡◌, ◌≢◌, ◌≤◌, IfErr, IfOk, IsTrue, None, OnErr, is_some, true};
+ghost use Rattle.std.specs.Prelude.{◌≡◌, ◌≢◌, ◌≤◌, IfErr, IfOk, IsTrue, List, OnErr, OnOk, Option, is_some, true, ℕ};
 ghost use Rattle.sig_calls.specs.Proper.{IsProperRules};
 ghost use Rattle.sig_init.specs.Files.{KeepsBut};
 ghost use Rattle.sig_links.specs.Told.{stored};
+ghost use Rattle.sig_opening.specs.Files.{HaltsStore, IsToldBy};
+ghost use Rattle.sig_opening.specs.Stays.{StaySame};
 ghost use Rattle.sig_outside.specs.Causes.{Rose};
 ghost use Rattle.sig_txnode.specs.Node.{first_file, second_file};
-ghost use Rattle.sig_serve.specs.Ends.{HaltsStore};
 ghost use Rattle.sig_serve.specs.Closing.{FilesTell};
+ghost use Rattle.sig_serve.specs.Ends.{state_of};
 ghost use Rattle.sig_serve.specs.Opening.{Opens};
-ghost use Rattle.sig_serve.specs.Stays.{StaySame};
 
-use crate::ServeEnd;
-use crate::ending::of_load;
 use sig_init::FileNames;
-use sig_journal::LoadRefused;
+use sig_journal::{LoadFault, LoadRefused};
 use sig_links::Outside;
+use sig_opening::{files_of, put_files};
 use sig_outside::Disk;
 use sig_terms::Rules;
 use sig_txnode::TxNode;
@@ -27,29 +27,23 @@ pub fn open<X: Outside>(
     rules: Rules,
     names: &FileNames,
     outside: &mut X,
-) -> Result<TxNode<X::D>, ServeEnd>
+) -> Result<TxNode<X::D>, LoadFault>
     requires proper { IsProperRules rules }
     requires apart { names.now.a ≢ names.now.b }
     ensures opens { IfOk result (λ node. Opens X.D.told X.D.seen rules (X.held outside.old names.now.a) (X.held outside.old names.now.b) node) }
     ensures lent { IfOk result (λ node. IsTrue (X.lent outside.new names.now.a) × IsTrue (X.lent outside.new names.now.b)) }
-    ensures halts { IfErr result (λ end. HaltsStore end (X.held outside.old names.now.a) (X.held outside.old names.now.b) (X.store_faults outside.old) (X.store_faults outside.new)) }
+    ensures halts { IfErr result (λ fault. HaltsStore state_of fault (X.held outside.old names.now.a) (X.held outside.old names.now.b) (X.store_faults outside.old) (X.store_faults outside.new)) }
     ensures later { X.store_faults outside.old ≤ X.store_faults outside.new }
     ensures back { OnErr result (StaySame names.now.a names.now.b (X.held outside.old) (X.held outside.new)) }
     ensures others { KeepsBut names.now.a names.now.b (X.held outside.old) (X.held outside.new) }
     ensures settings { X.settings_of outside.new ≡ X.settings_of outside.old }
     ensures doors { (X.doors outside.new ≡ X.doors outside.old) × (X.doors_out outside.new ≡ X.doors_out outside.old) × (X.doors_back outside.new ≡ X.doors_back outside.old) }
+    ensures sides { (X.sides outside.new ≡ X.sides outside.old) × (X.sides_out outside.new ≡ X.sides_out outside.old) × (X.sides_back outside.new ≡ X.sides_back outside.old) }
     ensures network { X.network_faults outside.new ≡ X.network_faults outside.old }
 {
-    let a = match outside.store(names.a.as_str()) {
-        Ok(a) => a,
-        Err(_) => return Err(ServeEnd::StoreFailed),
-    };
-    match outside.store(names.b.as_str()) {
-        Ok(b) => load(alloc, rules, names, a, b, outside),
-        Err(_) => {
-            outside.put_back(names.a.as_str(), a);
-            Err(ServeEnd::StoreFailed)
-        }
+    match files_of(names, outside) {
+        Ok((a, b)) => load(alloc, rules, names, a, b, outside),
+        Err(_) => Err(LoadFault::Store),
     }
 }
 
@@ -61,19 +55,21 @@ fn load<X: Outside>(
     a: X::D,
     b: X::D,
     outside: &mut X,
-) -> Result<TxNode<X::D>, ServeEnd>
+) -> Result<TxNode<X::D>, LoadFault>
     requires proper { IsProperRules rules }
     requires apart { names.now.a ≢ names.now.b }
     requires lent { IsTrue (X.lent outside.old names.now.a) × IsTrue (X.lent outside.old names.now.b) }
     requires whole { (X.D.faults a ≡ 0) × (X.D.faults b ≡ 0) }
-    ensures opens { IfOk result (λ node. Opens X.D.told X.D.seen rules (stored (X.D.told a) (X.D.seen a)) (stored (X.D.told b) (X.D.seen b)) node) }
-    ensures halts { IfErr result (λ end. HaltsStore end (stored (X.D.told a) (X.D.seen a)) (stored (X.D.told b) (X.D.seen b)) (X.store_faults outside.old) (X.store_faults outside.new)) }
+    ensures opens { IfOk result (λ node. (first second : Option (List ℕ)) → IsToldBy X.D.told X.D.seen first a → IsToldBy X.D.told X.D.seen second b → Opens X.D.told X.D.seen rules first second node) }
+    ensures halts { IfErr result (λ fault. (first second : Option (List ℕ)) → IsToldBy X.D.told X.D.seen first a → IsToldBy X.D.told X.D.seen second b
+        → HaltsStore state_of fault first second (X.store_faults outside.old) (X.store_faults outside.new)) }
     ensures later { X.store_faults outside.old ≤ X.store_faults outside.new }
     ensures back { OnErr result ((X.held outside.new names.now.a ≡ stored (X.D.told a) (X.D.seen a)) × (X.held outside.new names.now.b ≡ stored (X.D.told b) (X.D.seen b))) }
-    ensures lends { IfOk result (λ node. X.lent outside.new ≡ X.lent outside.old) }
+    ensures lends { OnOk result (X.lent outside.new ≡ X.lent outside.old) }
     ensures others { KeepsBut names.now.a names.now.b (X.held outside.old) (X.held outside.new) }
     ensures settings { X.settings_of outside.new ≡ X.settings_of outside.old }
     ensures doors { (X.doors outside.new ≡ X.doors outside.old) × (X.doors_out outside.new ≡ X.doors_out outside.old) × (X.doors_back outside.new ≡ X.doors_back outside.old) }
+    ensures sides { (X.sides outside.new ≡ X.sides outside.old) × (X.sides_out outside.new ≡ X.sides_out outside.old) × (X.sides_back outside.new ≡ X.sides_back outside.old) }
     ensures network { X.network_faults outside.new ≡ X.network_faults outside.old }
 {
     match TxNode::load(alloc, a, b, rules) {
@@ -84,9 +80,8 @@ fn load<X: Outside>(
         }
         Err(refused) => {
             let LoadRefused { fault, a, b } = refused;
-            outside.put_back(names.a.as_str(), a);
-            outside.put_back(names.b.as_str(), b);
-            Err(of_load(fault))
+            put_files(a, b, names, outside);
+            Err(fault)
         }
     }
 }
@@ -103,12 +98,12 @@ pub fn give_back<X: Outside>(node: TxNode<X::D>, names: &FileNames, outside: &mu
     ensures others { KeepsBut names.now.a names.now.b (X.held outside.old) (X.held outside.new) }
     ensures settings { X.settings_of outside.new ≡ X.settings_of outside.old }
     ensures doors { (X.doors outside.new ≡ X.doors outside.old) × (X.doors_out outside.new ≡ X.doors_out outside.old) × (X.doors_back outside.new ≡ X.doors_back outside.old) }
+    ensures sides { (X.sides outside.new ≡ X.sides outside.old) × (X.sides_out outside.new ≡ X.sides_out outside.old) × (X.sides_back outside.new ≡ X.sides_back outside.old) }
     ensures network { X.network_faults outside.new ≡ X.network_faults outside.old }
 {
     files_tell(&node);
     let (a, b) = node.into_disks();
-    outside.put_back(names.a.as_str(), a);
-    outside.put_back(names.b.as_str(), b);
+    put_files(a, b, names, outside);
 }
 
 // What the files of a node tell rests on what holds of every node and of every disk.

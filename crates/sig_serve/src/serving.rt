@@ -3,12 +3,14 @@
 ghost use Rattle.std.specs.Prelude.{◌≡◌, ◌≢◌, ℕ, List, None};
 ghost use Rattle.sig_calls.specs.Proper.{IsProperRules};
 ghost use Rattle.sig_init.specs.Files.{KeepsBut, StaysTold, file_a, file_b};
+ghost use Rattle.sig_opening.specs.Door.{doors_of};
+ghost use Rattle.sig_opening.specs.Ends.{BreaksBy, fails_by};
+ghost use Rattle.sig_opening.specs.Serving.{around};
+ghost use Rattle.sig_opening.specs.Stays.{KeepsOtherSettings};
 ghost use Rattle.sig_outside.specs.Causes.{Rose};
-ghost use Rattle.sig_serve.specs.Door.{ServesAt, doors_of};
+ghost use Rattle.sig_serve.specs.Door.{ServesAt};
 ghost use Rattle.sig_serve.specs.Ends.{AreRefused, IsDamaged};
-ghost use Rattle.sig_serve.specs.Serving.{Serves, ServesBy, around};
-ghost use Rattle.sig_serve.specs.Stays.{KeepsOtherSettings};
-ghost use Rattle.sig_serve.specs.Watches.{BreaksBy, fails_by};
+ghost use Rattle.sig_serve.specs.Serving.{Serves, ServesBy};
 
 use crate::ServeEnd;
 use crate::opening::{give_back, open};
@@ -52,10 +54,11 @@ pub fn serve<R: Wait, X: Outside>(
     ensures back { StaysTold (X.held outside.old) (X.held outside.new) (file_a store.now) × StaysTold (X.held outside.old) (X.held outside.new) (file_b store.now) }
     ensures others { KeepsBut (file_a store.now) (file_b store.now) (X.held outside.old) (X.held outside.new) }
     ensures settings { KeepsOtherSettings settings.now (X.settings_of outside.old) (X.settings_of outside.new) }
+    ensures sides { (X.sides outside.new ≡ X.sides outside.old) × (X.sides_out outside.new ≡ X.sides_out outside.old) × (X.sides_back outside.new ≡ X.sides_back outside.old) }
 {
     let said = match settings_from(alloc, settings, outside) {
         Ok(said) => said,
-        Err(end) => return end,
+        Err(cause) => return ServeEnd::of_unread(cause),
     };
     match file_names(alloc, store) {
         Ok(names) => serve_store(alloc, rt, said, &names, watches, outside),
@@ -85,6 +88,7 @@ fn serve_store<R: Wait, X: Outside>(
     ensures back { StaysTold (X.held outside.old) (X.held outside.new) names.now.a × StaysTold (X.held outside.old) (X.held outside.new) names.now.b }
     ensures others { KeepsBut names.now.a names.now.b (X.held outside.old) (X.held outside.new) }
     ensures settings { X.settings_of outside.new ≡ X.settings_of outside.old }
+    ensures sides { (X.sides outside.new ≡ X.sides outside.old) × (X.sides_out outside.new ≡ X.sides_out outside.old) × (X.sides_back outside.new ≡ X.sides_back outside.old) }
 {
     let TxSettings { rules, listen } = said;
     match open(alloc, rules, names, outside) {
@@ -93,7 +97,7 @@ fn serve_store<R: Wait, X: Outside>(
             give_back(node, names, outside);
             end
         }
-        Err(end) => end,
+        Err(fault) => ServeEnd::of_load(fault),
     }
 }
 
@@ -112,6 +116,7 @@ fn serve_at<R: Wait, X: Outside>(
     ensures network { result.end ≡ ServeEnd.NetworkFailed → Rose (X.network_faults outside.old) (X.network_faults outside.new) }
     ensures stores { (X.held outside.new ≡ X.held outside.old) × (X.lent outside.new ≡ X.lent outside.old) × (X.store_faults outside.new ≡ X.store_faults outside.old) }
     ensures settings { X.settings_of outside.new ≡ X.settings_of outside.old }
+    ensures sides { (X.sides outside.new ≡ X.sides outside.old) × (X.sides_out outside.new ≡ X.sides_out outside.old) × (X.sides_back outside.new ≡ X.sides_back outside.old) }
 {
     match outside.door(place) {
         Ok(door) => {

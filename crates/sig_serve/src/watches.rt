@@ -1,9 +1,11 @@
 //! The watches of a run, one after the other.
 
 ghost use Rattle.std.specs.Prelude.{◌≡◌, ◌<◌, IfNone, IfSome, None, Some, if◌then◌else◌};
-ghost use Rattle.sig_txnode.specs.Node.{files_told};
-ghost use Rattle.sig_txwatch.specs.Links.{door_view};
-ghost use Rattle.sig_serve.specs.Watches.{BreaksBy, GoesOn, RunsTo, StopsAt, fails_by, standing};
+ghost use Rattle.sig_serving.specs.Door.{door_view};
+ghost use Rattle.sig_opening.specs.Ends.{BreaksBy, fails_by};
+ghost use Rattle.sig_opening.specs.Watches.{GoesOn, RunsTo, StopsAt};
+ghost use Rattle.sig_serve.specs.Door.{with_door};
+ghost use Rattle.sig_serve.specs.Watches.{IsWatch, reports_shut};
 
 use crate::ServeEnd;
 use sig_links::Door;
@@ -26,7 +28,6 @@ struct Watched<D: Disk> {
 }
 
 /// Runs so many watches, or fewer: it goes on after none that reports a shut door, nor after one that fails.
-#[tactic(auto, using(crate::proofs::RunLemmas::ran_none, crate::proofs::RunLemmas::ran_all))]
 pub fn run_watches<R: Wait, D: Disk, A: Door>(
     alloc: Global,
     rt: &R,
@@ -35,9 +36,9 @@ pub fn run_watches<R: Wait, D: Disk, A: Door>(
     door: &mut A,
 ) -> Served<D>
     requires { node.store.broken_at ≡ None }
-    ensures runs { RunsTo node.rules result.end watches
-        (standing node.state (files_told D.told node) (door_view A.coming A.served A.out A.place A.faults door.old))
-        (standing result.node.state (files_told D.told result.node) (door_view A.coming A.served A.out A.place A.faults door.new)) }
+    ensures runs { RunsTo (IsWatch node.rules) reports_shut result.end watches
+        (with_door D.told node (door_view A.coming A.served A.out A.place A.faults door.old))
+        (with_door D.told result.node (door_view A.coming A.served A.out A.place A.faults door.new)) }
     ensures breaks { BreaksBy (fails_by result.end) result.node.store.broken_at }
     ensures network { result.end ≡ ServeEnd.NetworkFailed → 0 < A.faults door.new }
 {
@@ -64,12 +65,12 @@ fn run_watch<R: Wait, D: Disk, A: Door>(
 ) -> Watched<D>
     requires { node.store.broken_at ≡ None }
     ensures rules { result.node.rules ≡ node.rules }
-    ensures goes_on { IfNone result.end (GoesOn node.rules
-        (standing node.state (files_told D.told node) (door_view A.coming A.served A.out A.place A.faults door.old))
-        (standing result.node.state (files_told D.told result.node) (door_view A.coming A.served A.out A.place A.faults door.new))) }
-    ensures stops { IfSome result.end (λ end. StopsAt node.rules end
-        (standing node.state (files_told D.told node) (door_view A.coming A.served A.out A.place A.faults door.old))
-        (standing result.node.state (files_told D.told result.node) (door_view A.coming A.served A.out A.place A.faults door.new))) }
+    ensures goes_on { IfNone result.end (GoesOn (IsWatch node.rules)
+        (with_door D.told node (door_view A.coming A.served A.out A.place A.faults door.old))
+        (with_door D.told result.node (door_view A.coming A.served A.out A.place A.faults door.new))) }
+    ensures stops { IfSome result.end (λ end. StopsAt (IsWatch node.rules) reports_shut end
+        (with_door D.told node (door_view A.coming A.served A.out A.place A.faults door.old))
+        (with_door D.told result.node (door_view A.coming A.served A.out A.place A.faults door.new))) }
     ensures whole { IfNone result.end (result.node.store.broken_at ≡ None) }
     ensures breaks { IfSome result.end (λ end. BreaksBy (fails_by end) result.node.store.broken_at) }
     ensures network { IfSome result.end (λ end. end ≡ ServeEnd.NetworkFailed → 0 < A.faults door.new) }

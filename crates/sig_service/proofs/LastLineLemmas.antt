@@ -7,13 +7,15 @@ use Rattle.sig_outside.specs.Causes.{AppendsPrefix}
 use Rattle.sig_outside.proofs.CauseLemmas.{appends_then_prefix, prefix_longer}
 use Rattle.sig_command.specs.Moment.{OutputState}
 use Rattle.sig_init.specs.declared.ending.InitEnd.{InitEnd}
-use Rattle.sig_txwatch.specs.declared.report.Differ.{Differ}
-use Rattle.sig_txwatch.specs.declared.report.Differ.TheVariants.{Turn}
-use Rattle.sig_serve.specs.declared.ending.ServeEnd.{ServeEnd}
-use Rattle.sig_serve.specs.declared.ending.ServeEnd.TheVariants.{Damaged, Disagree}
+use Rattle.sig_serving.specs.declared.differ.Differ.{Differ}
+use Rattle.sig_serving.specs.declared.differ.Differ.TheVariants.{Turn}
+use Rattle.sig_opening.specs.declared.ending.ServeEnd.{ServeEnd}
+use Rattle.sig_opening.specs.declared.ending.ServeEnd.TheVariants.{Disagree}
+use Rattle.sig_receive.specs.declared.ending.FetchEnd.{FetchEnd}
 use Rattle.sig_service.specs.InitRuns as init_runs
 use Rattle.sig_service.specs.LastLine.{PutLast}
-use Rattle.sig_service.specs.ServeRuns.{last_line, status_of}
+use Rattle.sig_service.specs.FetchRuns as fetch_runs
+use Rattle.sig_service.specs.ServerRuns.{damaged_line, last_line, status_of}
 
 pub on_err : {T E : Type 0} (r : Result T E) (P : Type 0) → P → OnErr r P
 on_err (Ok x) P h = tt
@@ -49,19 +51,24 @@ pub put_serve : (e x : ServeEnd) (line : List ℕ) (a b : OutputState) (status :
 put_serve e x line a b status is same put =
     subst (λ (y : ServeEnd). PutLast (status_of y) (last_line y) a b status) (sym is) (put_as (status_of x) line (last_line x) a b status same put)
 
+pub put_fetch : (e x : FetchEnd) (line : List ℕ) (a b : OutputState) (status : ℕ) → e ≡ x → line ≡ fetch_runs.last_line x
+    → PutLast (fetch_runs.status_of x) line a b status → PutLast (fetch_runs.status_of e) (fetch_runs.last_line e) a b status
+put_fetch e x line a b status is same put =
+    subst (λ (y : FetchEnd). PutLast (fetch_runs.status_of y) (fetch_runs.last_line y) a b status) (sym is) (put_as (fetch_runs.status_of x) line (fetch_runs.last_line x) a b status same put)
+
 pub put_differ : (d x : Differ) (line : List ℕ) (a b : OutputState) (status : ℕ) → d ≡ x → line ≡ last_line (Disagree x)
     → PutLast 8 line a b status → PutLast 8 (last_line (Disagree d)) a b status
 put_differ d x line a b status is same put =
     subst (λ (y : Differ). PutLast 8 (last_line (Disagree y)) a b status) (sym is) (put_as 8 line (last_line (Disagree x)) a b status same put)
 
-pub put_damaged : (file at : ℕ) (line : List ℕ) (a b : OutputState) (status : ℕ) → line ≡ last_line (Damaged file at)
-    → PutLast 6 line a b status → PutLast 6 (last_line (Damaged file at)) a b status
-put_damaged file at line a b status same put = put_as 6 line (last_line (Damaged file at)) a b status same put
+pub put_damaged : (file at : ℕ) (line : List ℕ) (a b : OutputState) (status : ℕ) → line ≡ damaged_line file at
+    → PutLast 6 line a b status → PutLast 6 (damaged_line file at) a b status
+put_damaged file at line a b status same put = put_as 6 line (damaged_line file at) a b status same put
 
-pub line_of_a : (file at : ℕ) → file ≡ 0 → codes "signals: damaged a " ++ decimal at ++ codes "\n" ≡ last_line (Damaged file at)
+pub line_of_a : (file at : ℕ) → file ≡ 0 → codes "signals: damaged a " ++ decimal at ++ codes "\n" ≡ damaged_line file at
 line_of_a file at is = rw is refl
 
-pub line_of_b : (file at : ℕ) → file ≢ 0 → codes "signals: damaged b " ++ decimal at ++ codes "\n" ≡ last_line (Damaged file at)
+pub line_of_b : (file at : ℕ) → file ≢ 0 → codes "signals: damaged b " ++ decimal at ++ codes "\n" ≡ damaged_line file at
 line_of_b file at other = let no : (file == 0) ≡ false = grind (arith, other) in rw no refl
 
 pub line_of_turn : (link_text place_text : List ℕ) (link place : ℕ) → link_text ≡ decimal link → place_text ≡ codes " place " ++ decimal place ++ codes "\n"

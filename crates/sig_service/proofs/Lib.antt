@@ -1,5 +1,6 @@
 pub mod AskingLemmas
 pub mod EndLemmas
+pub mod FetchEndLemmas
 pub mod LastLineLemmas
-pub mod ServeAskingLemmas
-pub mod ServeEndLemmas
+pub mod ServerEndLemmas
+pub mod StoreAskingLemmas

@@ -1,4 +1,4 @@
--- The words of `init` and of `serve`.
+-- The words of `init`, `serve`, `receive` and `fetch`.
 use Rattle.std.specs.Prelude.{ℕ, List, [], ◌∷◌, ◌&&◌, Option, None, Some, option_and_then, option_map, bytes_eq, codes, if◌then◌else◌, nat_le, nat_lt, slice_index}
 use Rattle.std.specs.Str.{all_ascii_digits}
 use Rattle.std.specs.Str.Parse.{digits_value}
@@ -7,6 +7,8 @@ use Rattle.sig_json.specs.declared.limits.TheConstants.{LAST_NUMBER}
 use Rattle.sig_journal.specs.declared.kind.Kind.{Kind}
 use Rattle.sig_journal.specs.declared.kind.Kind.TheVariants.{Tx, Rx}
 use Rattle.sig_program.specs.Command.{is_filled}
+use Rattle.sig_service.specs.declared.asking.Server.{Server}
+use Rattle.sig_service.specs.declared.asking.Server.TheVariants.{Transmitter, Receiver}
 
 -- ---- `init`
 
@@ -39,38 +41,55 @@ abbrev pub init_of : List (List ℕ) → Option Asked
 init_of [] = None
 init_of (name ∷ words) = if bytes_eq name (codes "init") then init_words words else None
 
--- ---- `serve`
+-- ---- commands over settings and a store
 
--- what `serve` is asked for: the settings and the store, by their names, and how many watches
-pub record ServeAsked : Type 0 where
+-- what they are asked for: the settings and the store, by their names, and how many watches or rounds
+pub record StoreAsked : Type 0 where
   pub settings : List ℕ
   pub store : List ℕ
-  pub watches : ℕ
+  pub count : ℕ
 
 -- a number up to LAST_NUMBER
 abbrev pub within : ℕ → Option ℕ
 within n = if nat_le n LAST_NUMBER then Some n else None
 
 -- a number from 1 to LAST_NUMBER, in decimal without leading zeros
-abbrev pub watches_of : List ℕ → Option ℕ
-watches_of word = if nat_lt 48 (slice_index word 0) && all_ascii_digits word then within (digits_value 10 word) else None
+abbrev pub count_of : List ℕ → Option ℕ
+count_of word = if nat_lt 48 (slice_index word 0) && all_ascii_digits word then within (digits_value 10 word) else None
 
--- `<settings> <store> <watches>`, with names that aren't empty
-abbrev pub serve_ask_of : List ℕ → List ℕ → List ℕ → Option ServeAsked
-serve_ask_of settings store watches =
+-- `<settings> <store> <count>`, with names that aren't empty
+abbrev pub store_ask_of : List ℕ → List ℕ → List ℕ → Option StoreAsked
+store_ask_of settings store count =
     if is_filled settings && is_filled store
-    then option_map (λ n. record { settings = settings; store = store; watches = n }) (watches_of watches)
+    then option_map (λ n. record { settings = settings; store = store; count = n }) (count_of count)
     else None
 
 -- the words after the name
-abbrev pub serve_words : List (List ℕ) → Option ServeAsked
-serve_words [] = None
-serve_words (settings ∷ []) = None
-serve_words (settings ∷ store ∷ []) = None
-serve_words (settings ∷ store ∷ watches ∷ []) = serve_ask_of settings store watches
-serve_words (settings ∷ store ∷ watches ∷ more ∷ words) = None
+abbrev pub store_words : List (List ℕ) → Option StoreAsked
+store_words [] = None
+store_words (settings ∷ []) = None
+store_words (settings ∷ store ∷ []) = None
+store_words (settings ∷ store ∷ count ∷ []) = store_ask_of settings store count
+store_words (settings ∷ store ∷ count ∷ more ∷ words) = None
 
--- what words ask `serve` for; none where they don't
-abbrev pub serve_of : List (List ℕ) → Option ServeAsked
-serve_of [] = None
-serve_of (name ∷ words) = if bytes_eq name (codes "serve") then serve_words words else None
+-- ---- `serve` and `receive`
+
+-- whose server is asked for, and over what
+pub record ServerAsked : Type 0 where
+  pub server : Server
+  pub over : StoreAsked
+
+abbrev pub server_named : List ℕ → Option Server
+server_named name = if bytes_eq name (codes "serve") then Some Transmitter else if bytes_eq name (codes "receive") then Some Receiver else None
+
+-- what words ask a server for; none where they don't
+abbrev pub server_of : List (List ℕ) → Option ServerAsked
+server_of [] = None
+server_of (name ∷ words) = option_and_then (λ s. option_map (λ o. record { server = s; over = o }) (store_words words)) (server_named name)
+
+-- ---- `fetch`
+
+-- what words ask `fetch` for; none where they don't
+abbrev pub fetch_of : List (List ℕ) → Option StoreAsked
+fetch_of [] = None
+fetch_of (name ∷ words) = if bytes_eq name (codes "fetch") then store_words words else None

@@ -1,4 +1,6 @@
 pub mod Asking
 pub mod LastLine
 pub mod InitRuns
-pub mod ServeRuns
+pub mod Outside
+pub mod ServerRuns
+pub mod FetchRuns

@@ -1,4 +1,4 @@
-//! The words of `init` and of `serve`.
+//! The words of `init`, `serve`, `receive` and `fetch`.
 
 ghost use Rattle.std.specs.Prelude.{◌≡◌, map, option_and_then, option_map, string_bytes};
 ghost use Rattle.sig_service.specs.Asking as spec;
@@ -66,57 +66,96 @@ fn kind_of(word: &str) -> Option<Kind>
     }
 }
 
-/// What `serve` is asked for.
+/// What a command over settings and a store is asked for.
 #[derive(Clone, Copy)]
-pub struct ServeAsk<'a> {
+pub struct StoreAsk<'a> {
     /// The name of the settings.
     pub settings: &'a str,
     /// The name of the store, by which its two files are named.
     pub store: &'a str,
-    /// How many watches it runs at most.
-    pub watches: u64,
+    /// How many watches, or rounds, it runs at most.
+    pub count: u64,
 }
 
-/// What `serve` is asked for by these words; none exactly where they aren't `serve`, the names of settings and of a store,
-/// neither of which is empty, and a number of watches from 1 to 2^62, in decimal without leading zeros.
-pub fn serve_of(words: &[String]) -> Option<ServeAsk<'_>>
-    ensures { option_map (λ ask. record { settings = ask.settings.now; store = ask.store.now; watches = ask.watches }) result ≡ spec.serve_of (map (λ word. string_bytes word) words.now) }
+/// Whose server.
+#[derive(Clone, Copy, PartialEq, Eq)]
+pub enum Server {
+    /// The transmitter's, which `serve` runs.
+    Transmitter,
+    /// The receiver's, which `receive` runs.
+    Receiver,
+}
+
+/// What a server is asked for.
+#[derive(Clone, Copy)]
+pub struct ServerAsk<'a> {
+    /// Whose.
+    pub server: Server,
+    /// Over what.
+    pub over: StoreAsk<'a>,
+}
+
+/// What a server is asked for by these words; none exactly where they aren't `serve` or `receive`, the names of settings and of
+/// a store, neither of which is empty, and a number of watches from 1 to 2^62, in decimal without leading zeros.
+pub fn server_of(words: &[String]) -> Option<ServerAsk<'_>>
+    ensures { option_map (λ ask. record { server = ask.server; over = record { settings = ask.over.settings.now; store = ask.over.store.now; count = ask.over.count } }) result ≡ spec.server_of (map (λ word. string_bytes word) words.now) }
 {
     let (name, words) = words.split_first()?;
-    if name.as_str() != "serve" {
-        return None;
-    }
-    serve_words(words)
+    let server = server_named(name.as_str())?;
+    let over = store_words(words)?;
+    Some(ServerAsk { server, over })
 }
 
-// What `serve` is asked for by the words after its name.
-#[tactic(auto, using(crate::proofs::ServeAskingLemmas::serve_three))]
-fn serve_words(words: &[String]) -> Option<ServeAsk<'_>>
-    ensures { option_map (λ ask. record { settings = ask.settings.now; store = ask.store.now; watches = ask.watches }) result ≡ spec.serve_words (map (λ word. string_bytes word) words.now) }
+fn server_named(word: &str) -> Option<Server>
+    ensures { result ≡ spec.server_named word.now }
+{
+    match word {
+        "serve" => Some(Server::Transmitter),
+        "receive" => Some(Server::Receiver),
+        _ => None,
+    }
+}
+
+/// What `fetch` is asked for by these words; none exactly where they aren't `fetch`, the names of settings and of a store,
+/// neither of which is empty, and a number of rounds from 1 to 2^62, in decimal without leading zeros.
+pub fn fetch_of(words: &[String]) -> Option<StoreAsk<'_>>
+    ensures { option_map (λ ask. record { settings = ask.settings.now; store = ask.store.now; count = ask.count }) result ≡ spec.fetch_of (map (λ word. string_bytes word) words.now) }
+{
+    let (name, words) = words.split_first()?;
+    if name.as_str() != "fetch" {
+        return None;
+    }
+    store_words(words)
+}
+
+// What a command over settings and a store is asked for by the words after its name.
+#[tactic(auto, using(crate::proofs::StoreAskingLemmas::store_three))]
+fn store_words(words: &[String]) -> Option<StoreAsk<'_>>
+    ensures { option_map (λ ask. record { settings = ask.settings.now; store = ask.store.now; count = ask.count }) result ≡ spec.store_words (map (λ word. string_bytes word) words.now) }
 {
     if words.len() != 3 {
         return None;
     }
-    serve_ask_of(words[0].as_str(), words[1].as_str(), words[2].as_str())
+    store_ask_of(words[0].as_str(), words[1].as_str(), words[2].as_str())
 }
 
-fn serve_ask_of<'a>(settings: &'a str, store: &'a str, watches: &str) -> Option<ServeAsk<'a>>
-    ensures { option_map (λ ask. record { settings = ask.settings.now; store = ask.store.now; watches = ask.watches }) result ≡ spec.serve_ask_of settings.now store.now watches.now }
+fn store_ask_of<'a>(settings: &'a str, store: &'a str, count: &str) -> Option<StoreAsk<'a>>
+    ensures { option_map (λ ask. record { settings = ask.settings.now; store = ask.store.now; count = ask.count }) result ≡ spec.store_ask_of settings.now store.now count.now }
 {
     if settings.is_empty() || store.is_empty() {
         return None;
     }
-    let watches = watches_of(watches)?;
-    Some(ServeAsk {
+    let count = count_of(count)?;
+    Some(StoreAsk {
         settings,
         store,
-        watches,
+        count,
     })
 }
 
 // A number from 1 to 2^62, in decimal without leading zeros.
-fn watches_of(word: &str) -> Option<u64>
-    ensures { result ≡ spec.watches_of word.now }
+fn count_of(word: &str) -> Option<u64>
+    ensures { result ≡ spec.count_of word.now }
 {
     match word.as_bytes() {
         [first, ..] if *first > b'0' => up_to_last(word.parse::<u64>().ok()),

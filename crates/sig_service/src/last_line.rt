@@ -5,8 +5,10 @@ ghost use Rattle.std.specs.Io.KnownBytes.{Appends};
 ghost use Rattle.sig_outside.specs.Causes.{AppendsPrefix};
 ghost use Rattle.sig_command.specs.Moment.{OutputCalm, OutputStopped, output_state};
 ghost use Rattle.sig_service.specs.LastLine.{PutLast};
+ghost use Rattle.sig_service.specs.ServerRuns.{damaged_line};
 
 use sig_outside::{PutFault, Sink, put_all};
+use sig_program::numbered;
 
 /// Puts a last line, and answers the exit status: this one, or 4 where the output stops.
 pub(crate) fn put_last<O: Sink>(status: u8, line: &str, output: &mut O) -> u8
@@ -31,6 +33,17 @@ pub(crate) fn put_last_of<O: Sink>(
     match put_parts(front, middle, back, output) {
         Ok(()) => status,
         Err(_) => 4,
+    }
+}
+
+/// Puts the last line where a file of the store is damaged there.
+pub(crate) fn put_damaged<O: Sink>(file: u8, at: u64, output: &mut O) -> u8
+    ensures { PutLast 6 (damaged_line file at) (output_state (O.written output.old) (O.faults output.old) (O.stalls output.old)) (output_state (O.written output.new) (O.faults output.new) (O.stalls output.new)) result }
+{
+    if file == 0 {
+        put_last(6, numbered("signals: damaged a ", at).as_str(), output)
+    } else {
+        put_last(6, numbered("signals: damaged b ", at).as_str(), output)
     }
 }
 

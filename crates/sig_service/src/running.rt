@@ -11,17 +11,20 @@ ghost use Rattle.sig_program.specs.declared.command.Command.{Command};
 ghost use Rattle.sig_program.specs.Ends.{RanWith, ending_at, status_of, telling_of};
 ghost use Rattle.sig_service.specs.Asking as spec;
 ghost use Rattle.sig_service.specs.InitRuns.{InitRan};
-ghost use Rattle.sig_service.specs.ServeRuns.{IsServable, MeetsNoFault, ServeRan, outside_state};
+ghost use Rattle.sig_service.specs.FetchRuns.{EndsCalm, FetchRan, IsFetchable};
+ghost use Rattle.sig_service.specs.Outside.{MeetsNoFault, outside_state};
+ghost use Rattle.sig_service.specs.ServerRuns.{IsServable, ServerRan};
 
-use crate::asking::{init_of, serve_of};
+use crate::asking::{fetch_of, init_of, server_of};
+use crate::fetch_run::run_fetch;
 use crate::init_run::run_init;
-use crate::serve_run::run_serve;
+use crate::server_run::run_server;
 use sig_links::Outside;
 use sig_outside::{Sink, Source};
 use std::alloc::Global;
 use std::sync::Wait;
 
-/// Does what the words ask for, and answers the exit status. For the words of `serve` it may wait for links.
+/// Does what the words ask for, and answers the exit status. For the words of `serve` and `receive` it may wait for links.
 ///
 /// For those words it is 0 where as many watches ran as were asked for or the door is shut, 3 where the settings couldn't be
 /// read, 10 where they are refused, 5 where a file of the store couldn't be opened or its disk failed, 6 where the store is
@@ -35,32 +38,45 @@ pub fn run<R: Wait, X: Outside, I: Source, O: Sink>(
     output: &mut O,
     outside: &mut X,
 ) -> u8
-    ensures serve { IfSome (spec.serve_of (map (λ word. string_bytes word) words.now)) (λ ask. ServeRan ask
-        (outside_state (X.settings_of outside.old) (X.held outside.old) (X.doors outside.old) (X.doors_back outside.old) (X.settings_faults outside.old) (X.store_faults outside.old) (X.network_faults outside.old))
-        (outside_state (X.settings_of outside.new) (X.held outside.new) (X.doors outside.new) (X.doors_back outside.new) (X.settings_faults outside.new) (X.store_faults outside.new) (X.network_faults outside.new))
+    ensures serves { IfSome (spec.server_of (map (λ word. string_bytes word) words.now)) (λ ask. ServerRan ask
+        (outside_state X.settings_of X.held X.doors X.doors_back X.sides X.sides_back X.settings_faults X.store_faults X.network_faults outside.old)
+        (outside_state X.settings_of X.held X.doors X.doors_back X.sides X.sides_back X.settings_faults X.store_faults X.network_faults outside.new)
+        (output_state (O.written output.old) (O.faults output.old) (O.stalls output.old)) (output_state (O.written output.new) (O.faults output.new) (O.stalls output.new)) result) }
+    ensures fetches { IfSome (spec.fetch_of (map (λ word. string_bytes word) words.now)) (λ ask. FetchRan ask
+        (outside_state X.settings_of X.held X.doors X.doors_back X.sides X.sides_back X.settings_faults X.store_faults X.network_faults outside.old)
+        (outside_state X.settings_of X.held X.doors X.doors_back X.sides X.sides_back X.settings_faults X.store_faults X.network_faults outside.new)
         (output_state (O.written output.old) (O.faults output.old) (O.stalls output.old)) (output_state (O.written output.new) (O.faults output.new) (O.stalls output.new)) result) }
     ensures init { IfSome (spec.init_of (map (λ word. string_bytes word) words.now)) (λ ask. InitRan ask
         (X.held outside.old) (X.held outside.new) (X.store_faults outside.old) (X.store_faults outside.new)
         (output_state (O.written output.old) (O.faults output.old) (O.stalls output.old)) (output_state (O.written output.new) (O.faults output.new) (O.stalls output.new)) result) }
-    ensures plain { spec.serve_of (map (λ word. string_bytes word) words.now) ≡ None → spec.init_of (map (λ word. string_bytes word) words.now) ≡ None
+    ensures plain { spec.server_of (map (λ word. string_bytes word) words.now) ≡ None → spec.fetch_of (map (λ word. string_bytes word) words.now) ≡ None → spec.init_of (map (λ word. string_bytes word) words.now) ≡ None
         → RanWith (map (λ word. string_bytes word) words.now)
         (moment (I.left input.old) (I.faults input.old) (O.written output.old) (O.faults output.old) (O.stalls output.old))
         (moment (I.left input.new) (I.faults input.new) (O.written output.new) (O.faults output.new) (O.stalls output.new)) result }
 
     // The status 1 comes only where the words are no command.
     ensures usage { result ≡ 1 → (command_of (map (λ word. string_bytes word) words.now) ≡ None)
-        × (spec.init_of (map (λ word. string_bytes word) words.now) ≡ None) × (spec.serve_of (map (λ word. string_bytes word) words.now) ≡ None) }
+        × (spec.init_of (map (λ word. string_bytes word) words.now) ≡ None) × (spec.server_of (map (λ word. string_bytes word) words.now) ≡ None) × (spec.fetch_of (map (λ word. string_bytes word) words.now) ≡ None) }
 
     // The input is not even asked where no command reads it.
     ensures unasked { command_of (map (λ word. string_bytes word) words.now) ≡ None → input.new ≡ input.old }
 
     // Without faults, settings that are taken and a store that stands for a state are served to the end, or out of memory.
-    ensures served { (ask : spec.ServeAsked) → spec.serve_of (map (λ word. string_bytes word) words.now) ≡ Some ask
-        → IsServable ask (outside_state (X.settings_of outside.old) (X.held outside.old) (X.doors outside.old) (X.doors_back outside.old) (X.settings_faults outside.old) (X.store_faults outside.old) (X.network_faults outside.old))
-        → MeetsNoFault (outside_state (X.settings_of outside.old) (X.held outside.old) (X.doors outside.old) (X.doors_back outside.old) (X.settings_faults outside.old) (X.store_faults outside.old) (X.network_faults outside.old))
-        (outside_state (X.settings_of outside.new) (X.held outside.new) (X.doors outside.new) (X.doors_back outside.new) (X.settings_faults outside.new) (X.store_faults outside.new) (X.network_faults outside.new))
+    ensures served { (ask : spec.ServerAsked) → spec.server_of (map (λ word. string_bytes word) words.now) ≡ Some ask
+        → IsServable ask (outside_state X.settings_of X.held X.doors X.doors_back X.sides X.sides_back X.settings_faults X.store_faults X.network_faults outside.old)
+        → MeetsNoFault (outside_state X.settings_of X.held X.doors X.doors_back X.sides X.sides_back X.settings_faults X.store_faults X.network_faults outside.old)
+        (outside_state X.settings_of X.held X.doors X.doors_back X.sides X.sides_back X.settings_faults X.store_faults X.network_faults outside.new)
         (output_state (O.written output.old) (O.faults output.old) (O.stalls output.old)) (output_state (O.written output.new) (O.faults output.new) (O.stalls output.new))
         → (result ≡ 0) ⊎ (result ≡ 9) }
+
+    // Without faults, settings that are taken and name a transmitter, and a store that stands for a state: a fetch is done, or memory
+    // ran out, the journal is full, or the transmitter gave no page.
+    ensures fetched { (ask : spec.StoreAsked) → spec.fetch_of (map (λ word. string_bytes word) words.now) ≡ Some ask
+        → IsFetchable ask (outside_state X.settings_of X.held X.doors X.doors_back X.sides X.sides_back X.settings_faults X.store_faults X.network_faults outside.old)
+        → MeetsNoFault (outside_state X.settings_of X.held X.doors X.doors_back X.sides X.sides_back X.settings_faults X.store_faults X.network_faults outside.old)
+        (outside_state X.settings_of X.held X.doors X.doors_back X.sides X.sides_back X.settings_faults X.store_faults X.network_faults outside.new)
+        (output_state (O.written output.old) (O.faults output.old) (O.stalls output.old)) (output_state (O.written output.new) (O.faults output.new) (O.stalls output.new))
+        → EndsCalm result }
 
     // Without faults, a store is made over two empty files, or memory ran out.
     ensures made { (ask : spec.Asked) → spec.init_of (map (λ word. string_bytes word) words.now) ≡ Some ask
@@ -80,19 +96,16 @@ pub fn run<R: Wait, X: Outside, I: Source, O: Sink>(
         → (Rose (O.stalls output.old) (O.stalls output.new) → ⊥) → (result ≡ 0) ⊎ (result ≡ 9) }
 
     // Of the outside, `init` touches no more than the files of its store, and a command that reads the input nothing.
-    ensures untouched { spec.serve_of (map (λ word. string_bytes word) words.now) ≡ None → spec.init_of (map (λ word. string_bytes word) words.now) ≡ None → outside.new ≡ outside.old }
-    ensures settings { spec.serve_of (map (λ word. string_bytes word) words.now) ≡ None → (X.settings_of outside.new ≡ X.settings_of outside.old) × (X.settings_faults outside.new ≡ X.settings_faults outside.old) }
-    ensures doors { spec.serve_of (map (λ word. string_bytes word) words.now) ≡ None
+    ensures untouched { spec.server_of (map (λ word. string_bytes word) words.now) ≡ None → spec.fetch_of (map (λ word. string_bytes word) words.now) ≡ None → spec.init_of (map (λ word. string_bytes word) words.now) ≡ None → outside.new ≡ outside.old }
+    ensures settings { spec.server_of (map (λ word. string_bytes word) words.now) ≡ None → spec.fetch_of (map (λ word. string_bytes word) words.now) ≡ None → (X.settings_of outside.new ≡ X.settings_of outside.old) × (X.settings_faults outside.new ≡ X.settings_faults outside.old) }
+    ensures doors { spec.server_of (map (λ word. string_bytes word) words.now) ≡ None
         → (X.doors outside.new ≡ X.doors outside.old) × (X.doors_out outside.new ≡ X.doors_out outside.old) × (X.doors_back outside.new ≡ X.doors_back outside.old) }
-    ensures sides { spec.serve_of (map (λ word. string_bytes word) words.now) ≡ None
+    ensures sides { spec.fetch_of (map (λ word. string_bytes word) words.now) ≡ None
         → (X.sides outside.new ≡ X.sides outside.old) × (X.sides_out outside.new ≡ X.sides_out outside.old) × (X.sides_back outside.new ≡ X.sides_back outside.old) }
-    ensures network { spec.serve_of (map (λ word. string_bytes word) words.now) ≡ None → X.network_faults outside.new ≡ X.network_faults outside.old }
+    ensures network { spec.server_of (map (λ word. string_bytes word) words.now) ≡ None → spec.fetch_of (map (λ word. string_bytes word) words.now) ≡ None → X.network_faults outside.new ≡ X.network_faults outside.old }
 {
-    match serve_of(words) {
-        Some(ask) => {
-            let watches = ask.watches;
-            run_serve(alloc, rt, ask.settings, ask.store, watches, output, outside)
-        }
+    match server_of(words) {
+        Some(ask) => run_server(alloc, rt, ask.server, ask.over, output, outside),
         None => run_plain(alloc, words, input, output, outside),
     }
 }
@@ -100,8 +113,11 @@ pub fn run<R: Wait, X: Outside, I: Source, O: Sink>(
 /// Does what the words ask for where that waits for no link, and answers the exit status. It always returns.
 ///
 /// For the words of `init` it is 0 where the store is made, 5 where a file couldn't be opened or its disk failed, 9 out of
-/// memory, 12 where a file isn't empty, and 4 where the output stopped at the last line. For all other words it is the one of
-/// `sig_program::run`, to which `serve` is no command, and nothing outside is touched.
+/// memory, 12 where a file isn't empty, and 4 where the output stopped at the last line. For those of `fetch` it is 0 where as
+/// many rounds were made as were asked for or the last page lists no token, 3, 10, 5 and 6 as of a server, 7 where a dial or a
+/// link failed, 9 out of memory, 11 where the journal would end past 2^62, 13 where the transmitter gave no page, and 4 where the
+/// output stopped. For all other words it is the one of `sig_program::run`, to which `serve` and `receive` are no commands, and
+/// nothing outside is touched.
 pub fn run_plain<X: Outside, I: Source, O: Sink>(
     alloc: Global,
     words: &[String],
@@ -109,18 +125,31 @@ pub fn run_plain<X: Outside, I: Source, O: Sink>(
     output: &mut O,
     outside: &mut X,
 ) -> u8
-    ensures plain { spec.init_of (map (λ word. string_bytes word) words.now) ≡ None → RanWith (map (λ word. string_bytes word) words.now)
+    ensures plain { spec.fetch_of (map (λ word. string_bytes word) words.now) ≡ None → spec.init_of (map (λ word. string_bytes word) words.now) ≡ None → RanWith (map (λ word. string_bytes word) words.now)
         (moment (I.left input.old) (I.faults input.old) (O.written output.old) (O.faults output.old) (O.stalls output.old))
         (moment (I.left input.new) (I.faults input.new) (O.written output.new) (O.faults output.new) (O.stalls output.new)) result }
+    ensures fetches { IfSome (spec.fetch_of (map (λ word. string_bytes word) words.now)) (λ ask. FetchRan ask
+        (outside_state X.settings_of X.held X.doors X.doors_back X.sides X.sides_back X.settings_faults X.store_faults X.network_faults outside.old)
+        (outside_state X.settings_of X.held X.doors X.doors_back X.sides X.sides_back X.settings_faults X.store_faults X.network_faults outside.new)
+        (output_state (O.written output.old) (O.faults output.old) (O.stalls output.old)) (output_state (O.written output.new) (O.faults output.new) (O.stalls output.new)) result) }
     ensures init { IfSome (spec.init_of (map (λ word. string_bytes word) words.now)) (λ ask. InitRan ask
         (X.held outside.old) (X.held outside.new) (X.store_faults outside.old) (X.store_faults outside.new)
         (output_state (O.written output.old) (O.faults output.old) (O.stalls output.old)) (output_state (O.written output.new) (O.faults output.new) (O.stalls output.new)) result) }
 
     // The status 1 comes only where the words are no command.
-    ensures usage { result ≡ 1 → (command_of (map (λ word. string_bytes word) words.now) ≡ None) × (spec.init_of (map (λ word. string_bytes word) words.now) ≡ None) }
+    ensures usage { result ≡ 1 → (command_of (map (λ word. string_bytes word) words.now) ≡ None) × (spec.init_of (map (λ word. string_bytes word) words.now) ≡ None) × (spec.fetch_of (map (λ word. string_bytes word) words.now) ≡ None) }
 
     // The input is not even asked where no command reads it.
     ensures unasked { command_of (map (λ word. string_bytes word) words.now) ≡ None → input.new ≡ input.old }
+
+    // Without faults, settings that are taken and name a transmitter, and a store that stands for a state: a fetch is done, or memory
+    // ran out, the journal is full, or the transmitter gave no page.
+    ensures fetched { (ask : spec.StoreAsked) → spec.fetch_of (map (λ word. string_bytes word) words.now) ≡ Some ask
+        → IsFetchable ask (outside_state X.settings_of X.held X.doors X.doors_back X.sides X.sides_back X.settings_faults X.store_faults X.network_faults outside.old)
+        → MeetsNoFault (outside_state X.settings_of X.held X.doors X.doors_back X.sides X.sides_back X.settings_faults X.store_faults X.network_faults outside.old)
+        (outside_state X.settings_of X.held X.doors X.doors_back X.sides X.sides_back X.settings_faults X.store_faults X.network_faults outside.new)
+        (output_state (O.written output.old) (O.faults output.old) (O.stalls output.old)) (output_state (O.written output.new) (O.faults output.new) (O.stalls output.new))
+        → EndsCalm result }
 
     // Without faults, a store is made over two empty files, or memory ran out.
     ensures made { (ask : spec.Asked) → spec.init_of (map (λ word. string_bytes word) words.now) ≡ Some ask
@@ -142,17 +171,20 @@ pub fn run_plain<X: Outside, I: Source, O: Sink>(
         → (Rose (O.stalls output.old) (O.stalls output.new) → ⊥) → (result ≡ 0) ⊎ (result ≡ 9) }
 
     // Of the outside no more than the files of the store is touched.
-    ensures untouched { spec.init_of (map (λ word. string_bytes word) words.now) ≡ None → outside.new ≡ outside.old }
-    ensures settings { (X.settings_of outside.new ≡ X.settings_of outside.old) × (X.settings_faults outside.new ≡ X.settings_faults outside.old) }
+    ensures untouched { spec.fetch_of (map (λ word. string_bytes word) words.now) ≡ None → spec.init_of (map (λ word. string_bytes word) words.now) ≡ None → outside.new ≡ outside.old }
+    ensures settings { spec.fetch_of (map (λ word. string_bytes word) words.now) ≡ None → (X.settings_of outside.new ≡ X.settings_of outside.old) × (X.settings_faults outside.new ≡ X.settings_faults outside.old) }
     ensures doors { (X.doors outside.new ≡ X.doors outside.old) × (X.doors_out outside.new ≡ X.doors_out outside.old) × (X.doors_back outside.new ≡ X.doors_back outside.old) }
-    ensures sides { (X.sides outside.new ≡ X.sides outside.old) × (X.sides_out outside.new ≡ X.sides_out outside.old) × (X.sides_back outside.new ≡ X.sides_back outside.old) }
-    ensures network { X.network_faults outside.new ≡ X.network_faults outside.old }
+    ensures sides { spec.fetch_of (map (λ word. string_bytes word) words.now) ≡ None → (X.sides outside.new ≡ X.sides outside.old) × (X.sides_out outside.new ≡ X.sides_out outside.old) × (X.sides_back outside.new ≡ X.sides_back outside.old) }
+    ensures network { spec.fetch_of (map (λ word. string_bytes word) words.now) ≡ None → X.network_faults outside.new ≡ X.network_faults outside.old }
 {
     match init_of(words) {
         Some(ask) => {
             let store_id = ask.store_id;
             run_init(alloc, ask.kind, ask.store, store_id, output, outside)
         }
-        None => sig_program::run(alloc, words, input, output),
+        None => match fetch_of(words) {
+            Some(over) => run_fetch(alloc, over, output, outside),
+            None => sig_program::run(alloc, words, input, output),
+        },
     }
 }

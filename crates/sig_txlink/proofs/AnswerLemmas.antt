@@ -4,22 +4,24 @@ use Rattle.std.specs.Prelude.{if◌then◌else◌, ⊤}
 use Rattle.sig_http.specs.declared.message.Request.{Request}
 use Rattle.sig_push.specs.declared.fault.PushFault.{PushFault}
 use Rattle.sig_push.specs.declared.fault.PushFault.TheVariants as pushes
-use Rattle.sig_round.specs.Delivered.{SideView}
+use Rattle.sig_serving.specs.Side.{SideView}
 use Rattle.sig_round.specs.Turns.{Grew}
 use Rattle.sig_round.proofs.Grown.{grew_on}
 use Rattle.sig_terms.specs.declared.rules.Rules.{Rules}
 use Rattle.sig_txnode.specs.Told.{TakerTold}
 use Rattle.sig_txnode.specs.declared.turn.Turn.{Turn}
-use Rattle.sig_txlink.specs.Answering.{memory_text, text_of}
+use Rattle.sig_txlink.specs.Answering.{text_of}
+use Rattle.sig_serving.specs.Texts.{memory_text}
 use Rattle.sig_txlink.specs.Exchange.{Exchange, closes_after}
 use Rattle.sig_txlink.specs.Following.{Follows, IsRoundOver, streams_after}
-use Rattle.sig_txlink.specs.Moment.{Desk, Line, Says, Sends, TellsTimeAtMost, desk_of}
-use Rattle.sig_txlink.specs.Sending.{EndsWriting, Responds}
+use Rattle.sig_txlink.specs.Moment.{Desk, TellsTimeAtMost, desk_of}
+use Rattle.sig_serving.specs.Line.{Line, Says, Sends}
+use Rattle.sig_serving.specs.Sending.{EndsWriting, Responds}
 use Rattle.sig_txlink.specs.Serving.{AnswersBy, AnswersRequest, Handles, IsTold, Takes, end_after}
 use Rattle.sig_txlink.specs.Turning.{Comes, own_turn}
 use Rattle.sig_txlink.specs.declared.course.Course.{Course}
-use Rattle.sig_txlink.specs.declared.log.LinkEnd.{LinkEnd}
-use Rattle.sig_txlink.specs.declared.log.LinkEnd.TheVariants.{End, Spent, Closed, Http, Sent, Memory}
+use Rattle.sig_serving.specs.declared.link_end.LinkEnd.{LinkEnd}
+use Rattle.sig_serving.specs.declared.link_end.LinkEnd.TheVariants.{End, Spent, Closed, Http, Sent, Memory}
 
 -- an exchange without a push round
 abbrev alone : Request → Course → Exchange

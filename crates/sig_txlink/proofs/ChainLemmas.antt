@@ -5,13 +5,14 @@ use Rattle.std.proofs.KnownBytes.{Appends-trans, Appends-nil}
 use Rattle.sig_http.specs.Message.{DecidesRequest, Whole}
 use Rattle.sig_push.specs.declared.fault.PushFault.{PushFault}
 use Rattle.sig_push.specs.declared.fault.PushFault.TheVariants as pushes
-use Rattle.sig_round.specs.Delivered.{SideView}
+use Rattle.sig_serving.specs.Side.{SideView}
 use Rattle.sig_round.specs.Turns.{Adds}
 use Rattle.sig_round.proofs.Grown.{adds_none, adds_on}
 use Rattle.sig_terms.specs.declared.rules.Rules.{Rules}
 use Rattle.sig_txnode.specs.declared.turn.Turn.{Turn}
 use Rattle.sig_txlink.specs.Exchange.{AreMade, AreRead, Exchange, IsRead, MakesTurns, StandIn, text_in, texts_from, turns_in, turns_of}
-use Rattle.sig_txlink.specs.Moment.{Line, Moment, Says, unread}
+use Rattle.sig_txlink.specs.Moment.{Moment, unread}
+use Rattle.sig_serving.specs.Line.{Line, Says}
 use Rattle.sig_txlink.specs.Serving.{Done, Exchanges}
 
 turns_more : (es : List Exchange) (e : Exchange) → turns_of (es ++ e ∷ []) ≡ turns_of es ++ turns_in e

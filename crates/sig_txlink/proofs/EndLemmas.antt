@@ -6,11 +6,12 @@ use Rattle.sig_terms.specs.declared.rules.Rules.{Rules}
 use Rattle.sig_txnode.specs.Told.{TakerTold}
 use Rattle.sig_txnode.specs.declared.turn.Turn.{Turn}
 use Rattle.sig_txlink.specs.Exchange.{Exchange, GoesOn}
-use Rattle.sig_round.specs.Delivered.{SideView}
-use Rattle.sig_txlink.specs.Moment.{desk_of, Line, Moment, moment}
+use Rattle.sig_serving.specs.Side.{SideView}
+use Rattle.sig_txlink.specs.Moment.{desk_of, Moment, moment}
+use Rattle.sig_serving.specs.Line.{Line}
 use Rattle.sig_txlink.specs.Serving.{Cut, Done, Exchanges, Passes, PassesBy, RunsOut, Serves, Standing}
-use Rattle.sig_txlink.specs.declared.log.LinkEnd.{LinkEnd}
-use Rattle.sig_txlink.specs.declared.log.LinkEnd.TheVariants.{End, Spent, Closed, Http, Sent, Memory}
+use Rattle.sig_serving.specs.declared.link_end.LinkEnd.{LinkEnd}
+use Rattle.sig_serving.specs.declared.link_end.LinkEnd.TheVariants.{End, Spent, Closed, Http, Sent, Memory}
 use Rattle.sig_txlink.proofs.ChainLemmas.{exchanges_none, exchanges_more}
 
 -- nothing was answered yet

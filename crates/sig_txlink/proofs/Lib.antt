@@ -5,4 +5,3 @@ pub mod FollowLemmas
 pub mod PassLemmas
 pub mod ProperLemmas
 pub mod TurnLemmas
-pub mod WritingLemmas

@@ -12,14 +12,15 @@ use Rattle.sig_http.specs.declared.message.Request.{Request}
 use Rattle.sig_push.specs.declared.fault.PushFault.{PushFault}
 use Rattle.sig_push.specs.declared.fault.PushFault.TheVariants as outs
 use Rattle.sig_terms.specs.declared.rules.Rules.{Rules}
-use Rattle.sig_txlink.specs.Answering.{memory_text, refusal_text}
+use Rattle.sig_serving.specs.Texts.{memory_text, refusal_text}
 use Rattle.sig_txlink.specs.Exchange.{IsRead, text_in}
-use Rattle.sig_txlink.specs.Moment.{Line, Desk, moment, unread}
-use Rattle.sig_txlink.specs.Sending.{IsRefusal}
+use Rattle.sig_txlink.specs.Moment.{Desk, moment, unread}
+use Rattle.sig_serving.specs.Line.{Line}
+use Rattle.sig_serving.specs.Sending.{IsRefusal}
 use Rattle.sig_txlink.specs.Serving.{Answered, AnswersBy, AnswersRequest, IsTold, Passes, PassesBy}
-use Rattle.sig_txlink.specs.declared.log.LinkEnd.{LinkEnd}
-use Rattle.sig_txlink.specs.declared.log.LinkEnd.TheVariants.{End, Spent, Closed, Http, Sent, Memory}
-use Rattle.sig_txlink.proofs.WritingLemmas.{breaks_from, says_from, says_none, sends_from}
+use Rattle.sig_serving.specs.declared.link_end.LinkEnd.{LinkEnd}
+use Rattle.sig_serving.specs.declared.link_end.LinkEnd.TheVariants.{End, Spent, Closed, Http, Sent, Memory}
+use Rattle.sig_serving.proofs.WritingLemmas.{breaks_from, says_from, says_none, sends_from}
 
 -- it was read of the bytes that were kept and left
 request_read : (kept kept' : List ℕ) (line line' : Line) (desk desk' : Desk) (request : Request)

@@ -1,9 +1,8 @@
 -- How what came of a request is told (RFC 9110, section 15): a refusal of the routes, the answer of its turn, or why the turn
 -- has none.
 use Rattle.std.specs.Prelude.{ℕ, Bool, false, List, [], ◌∷◌, Option, Some, None, unwrap_or, Result, Ok, Err, codes}
-use Rattle.sig_http.specs.Answering.{closing as closing_with, refused_with, closing_of}
+use Rattle.sig_http.specs.Answering.{closing as closing_with, refused_with}
 use Rattle.sig_http.specs.Spelling.{response_spelling}
-use Rattle.sig_http.specs.declared.fault.HttpFault.{HttpFault}
 use Rattle.sig_http.specs.declared.message.Response.{Response}
 use Rattle.sig_terms.specs.declared.answer.Answer.{Answer}
 use Rattle.sig_terms.specs.declared.answer.Answer.TheVariants as answer
@@ -59,16 +58,3 @@ closing close response = record response { close = close }
 -- the text of the response to a request
 unfoldable pub text_of : Rules → Bool → Course → List ℕ
 text_of rules close course = response_spelling (closing close (response_to rules course))
-
--- the text of that response, which is fixed
-unfoldable pub memory_text : List ℕ
-memory_text = codes "HTTP/1.1 507 Insufficient Storage\r\nconnection: close\r\ncontent-length: 0\r\n\r\n"
-
--- the text of a response, and nothing where there is none
-abbrev pub spelled : Option Response → List ℕ
-spelled None = []
-spelled (Some response) = response_spelling response
-
--- the text of the response to a request that can't be read
-unfoldable pub refusal_text : HttpFault → List ℕ
-refusal_text fault = spelled (closing_of fault)

@@ -3,7 +3,6 @@ pub mod Asking
 pub mod Exchange
 pub mod Following
 pub mod Moment
-pub mod Sending
 pub mod Serving
 pub mod Turning
 pub mod Work

@@ -11,12 +11,13 @@ use Rattle.sig_push.specs.declared.fault.PushFault.{PushFault}
 use Rattle.sig_push.specs.declared.fault.PushFault.TheVariants as pushes
 use Rattle.sig_round.specs.Turns.{Adds}
 use Rattle.sig_terms.specs.declared.rules.Rules.{Rules}
-use Rattle.sig_txlink.specs.Answering.{memory_text, refusal_text}
+use Rattle.sig_serving.specs.Texts.{memory_text, refusal_text}
 use Rattle.sig_txlink.specs.Exchange.{AreMade, AreRead, CloseAtLast, Exchange, GoesOn, IsRead, MakesTurns, StayOpen, text_in, texts_from, turns_in, turns_of}
-use Rattle.sig_txlink.specs.Moment.{Breaks, Desk, Line, Moment, Says, Sends, TellsTimeAtMost, unread}
+use Rattle.sig_txlink.specs.Moment.{Desk, Moment, TellsTimeAtMost, unread}
+use Rattle.sig_serving.specs.Line.{Breaks, Line, Says, Sends}
 use Rattle.sig_txlink.specs.Turning.{Comes, own_turn}
-use Rattle.sig_txlink.specs.declared.log.LinkEnd.{LinkEnd}
-use Rattle.sig_txlink.specs.declared.log.LinkEnd.TheVariants.{End, Spent, Closed, Http, Sent, Memory}
+use Rattle.sig_serving.specs.declared.link_end.LinkEnd.{LinkEnd}
+use Rattle.sig_serving.specs.declared.link_end.LinkEnd.TheVariants.{End, Spent, Closed, Http, Sent, Memory}
 
 -- ---- one request
 

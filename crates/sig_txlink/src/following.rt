@@ -1,7 +1,7 @@
 //! The push round that follows a request which was answered.
 
 ghost use Rattle.std.specs.Prelude.{◌≡◌, ◌∷◌, [], IfOk, IsSome, OnErr, map};
-ghost use Rattle.sig_round.specs.Delivered.{view_of};
+ghost use Rattle.sig_serving.specs.Side.{view_of};
 ghost use Rattle.sig_round.specs.Turns.{HasRoom};
 ghost use Rattle.sig_terms.specs.declared.token.Issued.{Issued};
 ghost use Rattle.sig_txlink.specs.Following as spec;

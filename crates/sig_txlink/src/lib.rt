@@ -3,7 +3,7 @@
 //! 8935, section 2).
 //!
 //! It stands on `sig_http` for messages, on `sig_manage` and `sig_delivery` for what a request asks and how an answer is
-//! told, on `sig_txnode` for the taker of turns, on `sig_round` for push rounds, and on `sig_links` for the link and what its
+//! told, on `sig_serving` for what is written whatever is asked, on `sig_txnode` for the taker of turns, on `sig_round` for push rounds, and on `sig_links` for the link and what its
 //! requests may ask of the outside.
 //!
 //! ```text
@@ -28,5 +28,6 @@ mod serving;
 mod turning;
 mod work;
 
-pub use log::{LinkEnd, LinkLog};
+pub use log::LinkLog;
 pub use serving::serve_link;
+pub use sig_serving::LinkEnd;

@@ -2,14 +2,15 @@
 
 ghost use Rattle.std.specs.Prelude.{◌≡◌, ◌<◌, ℕ, List, []};
 ghost use Rattle.sig_txlink.specs.Exchange as spec;
-ghost use Rattle.sig_round.specs.Delivered.{view_of};
-ghost use Rattle.sig_txlink.specs.Moment.{desk_of, moment, seen};
+ghost use Rattle.sig_serving.specs.Side.{view_of};
+ghost use Rattle.sig_txlink.specs.Moment.{desk_of, moment};
+ghost use Rattle.sig_serving.specs.Line.{seen};
 ghost use Rattle.sig_txlink.specs.Serving as serving;
 ghost use Rattle.sig_txlink.specs.Serving.{AnswersRequest, Passes, Serves};
 ghost use Rattle.sig_txlink.specs.Work.{SameBeside};
 
 use crate::following::follow;
-use crate::sending::{refuse, respond, run_out};
+use crate::sending::respond;
 use crate::turning::{course_of, keep};
 use crate::work::Work;
 use crate::{LinkEnd, LinkLog};
@@ -19,6 +20,7 @@ use sig_json::{Items, Memory};
 use sig_links::{Link, Side};
 use sig_push::PushFault;
 use sig_round::TurnLog;
+use sig_serving::{refuse, run_out};
 use sig_terms::Rules;
 use sig_txnode::Taker;
 use std::alloc::Global;

@@ -2,7 +2,7 @@
 
 ghost use Rattle.std.specs.Prelude.{◌≡◌, ◌++◌, ◌∷◌, [], IfOk, OnErr, OnOk};
 ghost use Rattle.sig_calls.specs.Proper.{IsProperCall};
-ghost use Rattle.sig_round.specs.Delivered.{view_of};
+ghost use Rattle.sig_serving.specs.Side.{view_of};
 ghost use Rattle.sig_round.specs.Turns.{Grew, HasRoom, IsTurnOf};
 ghost use Rattle.sig_txlink.specs.Moment.{TellsTime, TellsTimeAtMost};
 ghost use Rattle.sig_txlink.specs.Turning.{Comes, own_turn};

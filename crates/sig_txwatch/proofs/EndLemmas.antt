@@ -8,12 +8,14 @@ use Rattle.sig_txnode.specs.Told.{TakerTold}
 use Rattle.sig_txnode.proofs.TurnLemmas.{turns_history}
 use Rattle.sig_txlink.specs.declared.log.LinkLog.{LinkLog}
 use Rattle.sig_txwatch.specs.Ends.{Agrees, EndsBy, HandsBack, HasReport, IfReport, IsOneHistory, IsReported, WhyEnded}
-use Rattle.sig_txwatch.specs.Links.{DoorView, told_in, watching}
-use Rattle.sig_txwatch.specs.Watch.{HasTurns, Watches, is_shut}
+use Rattle.sig_txwatch.specs.Links.{told_in, watching}
+use Rattle.sig_serving.specs.Door.{DoorView}
+use Rattle.sig_txwatch.specs.Watch.{HasTurns, Watches}
+use Rattle.sig_serving.specs.Stops.{is_shut}
 use Rattle.sig_txwatch.specs.declared.report.Report.{Report}
 use Rattle.sig_txwatch.specs.declared.report.WatchEnd.{WatchEnd}
 use Rattle.sig_txwatch.specs.declared.report.WatchEnd.TheVariants.{Done, DoorFault, Broken, Disagree, Memory}
-use Rattle.sig_txwatch.specs.declared.stop.Stop.{Stop}
+use Rattle.sig_serving.specs.declared.stop.Stop.{Stop}
 use Rattle.sig_txwatch.proofs.WatchLemmas.{watch_told, watch_turns}
 
 -- ---- what holds of the report

@@ -1,16 +1,17 @@
 -- What a link that was served leaves of the turns: those of the taker and of the log are longer by the same, each of the link.
-use Rattle.std.proofs.Common.{◌≡◌, ◌∙◌, ℕ, List, [], ◌∷◌, ◌++◌, length, Option, Some, None, Result, Ok, Err, refl, sym, ap, subst, inl, inr, append_assoc, append-nil}
-use Rattle.std.specs.Prelude.{◌⊎◌, All, ⊤}
-use Rattle.std.proofs.lemmas.List.Elements.{All-append, All-cons, All-head, All-nil, All-tail}
+use Rattle.std.proofs.Common.{◌≡◌, ◌∙◌, ℕ, List, [], ◌∷◌, ◌++◌, length, Option, Some, None, Result, Ok, Err, sym, ap, subst, inl, inr, append_assoc, append-nil}
+use Rattle.std.specs.Prelude.{All, ⊤}
+use Rattle.std.proofs.lemmas.List.Elements.{All-append, All-cons, All-nil}
 use Rattle.sig_http.specs.declared.message.Request.{Request}
 use Rattle.sig_terms.specs.declared.rules.Rules.{Rules}
 use Rattle.sig_txnode.specs.Told.{TakerTold}
 use Rattle.sig_txnode.specs.declared.turn.Turn.{Turn}
 use Rattle.sig_push.specs.declared.fault.PushFault.{PushFault}
 use Rattle.sig_push.specs.declared.fault.PushFault.TheVariants as pushes
-use Rattle.sig_round.specs.Delivered.{Settles, SideView}
+use Rattle.sig_round.specs.Delivered.{Settles}
+use Rattle.sig_serving.specs.Side.{SideView}
 use Rattle.sig_round.specs.Rounds.{IsRound, tokens_in}
-use Rattle.sig_round.specs.Turns.{Asker, Grew, IsTurnOf}
+use Rattle.sig_round.specs.Turns.{Asker, Grew}
 use Rattle.sig_terms.specs.declared.call.Outcome.{Outcome}
 use Rattle.sig_terms.specs.declared.token.Token.{Token}
 use Rattle.sig_txlink.specs.Exchange.{AreMade, Exchange, MakesTurns, turns_in, turns_of}
@@ -20,8 +21,8 @@ use Rattle.sig_txlink.specs.Serving.{Answered, Ends, Exchanges, Rests, RunsOut, 
 use Rattle.sig_txlink.specs.Turning.{Comes, own_turn}
 use Rattle.sig_txlink.specs.declared.course.Course.{Course}
 use Rattle.sig_txlink.specs.declared.course.Course.TheVariants.{Refused, Turned}
-use Rattle.sig_txlink.specs.declared.log.LinkEnd.{LinkEnd}
-use Rattle.sig_txlink.specs.declared.log.LinkEnd.TheVariants.{End, Spent, Closed, Http, Sent, Memory}
+use Rattle.sig_serving.specs.declared.link_end.LinkEnd.{LinkEnd}
+use Rattle.sig_serving.specs.declared.link_end.LinkEnd.TheVariants.{End, Spent, Closed, Http, Sent, Memory}
 
 -- the taker and the log have these turns more, each of this link
 pub record Grows (link : ℕ) (old new : Desk) : Type 0 where

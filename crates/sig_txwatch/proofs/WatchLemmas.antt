@@ -10,8 +10,8 @@ use Rattle.sig_txlink.specs.declared.log.LinkLog.{LinkLog}
 use Rattle.sig_txlink.specs.Moment.{desk_of, moment}
 use Rattle.sig_txwatch.specs.Links.{ServesOne, Watching}
 use Rattle.sig_txwatch.specs.Watch.{AreNumbered, AreServed, HasTurns, StopsBy, Watches, turns_of_link}
-use Rattle.sig_txwatch.specs.declared.stop.Stop.{Stop}
-use Rattle.sig_txwatch.specs.declared.stop.Stop.TheVariants.{Spent, Shut, Failed}
+use Rattle.sig_serving.specs.declared.stop.Stop.{Stop}
+use Rattle.sig_serving.specs.declared.stop.Stop.TheVariants.{Spent, Shut, Failed}
 use Rattle.sig_txwatch.proofs.ServesLemmas.{serves_grows}
 
 -- a link more, under the number after the last

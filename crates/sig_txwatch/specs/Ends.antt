@@ -4,12 +4,13 @@ use Rattle.sig_history.specs.Owed.{sum_of}
 use Rattle.sig_terms.specs.declared.rules.Rules.{Rules}
 use Rattle.sig_txnode.specs.Node.{IsNode, NodeView}
 use Rattle.sig_txwatch.specs.Links.{Watching}
-use Rattle.sig_txwatch.specs.Watch.{Watches, is_shut}
+use Rattle.sig_txwatch.specs.Watch.{Watches}
+use Rattle.sig_serving.specs.Stops.{is_shut}
 use Rattle.sig_txwatch.specs.declared.report.Report.{Report}
 use Rattle.sig_txwatch.specs.declared.report.WatchEnd.{WatchEnd}
 use Rattle.sig_txwatch.specs.declared.report.WatchEnd.TheVariants.{Done, DoorFault, Broken, Disagree, Memory}
-use Rattle.sig_txwatch.specs.declared.stop.Stop.{Stop}
-use Rattle.sig_txwatch.specs.declared.stop.Stop.TheVariants.{Failed}
+use Rattle.sig_serving.specs.declared.stop.Stop.{Stop}
+use Rattle.sig_serving.specs.declared.stop.Stop.TheVariants.{Failed}
 
 -- this holds of the node that is handed back and of the report, where there is one
 abbrev pub IfReport : {D : Type 0} → WatchEnd D → (NodeView D → Report → Type 0) → Type 0

@@ -1,28 +1,17 @@
 -- One link of a watch: it comes from a door, is served over a node, and goes back.
-use Rattle.std.specs.Prelude.{◌≡◌, ℕ, Bool, List, [], Option, Some, None, Result, Ok, Err, IfSome}
+use Rattle.std.specs.Prelude.{◌≡◌, ℕ, Bool, List, [], Option, Some, None, Result, Ok, Err}
 use Rattle.sig_outside.specs.Causes.{Raised}
 use Rattle.sig_outside.specs.declared.failed.Failed.{Failed}
-use Rattle.sig_links.specs.Told.{AcceptsNext, Begins, Coming, IsShut, LinkPlan, Served, served_of, with_last}
+use Rattle.sig_links.specs.Told.{IsShut}
 use Rattle.sig_terms.specs.declared.rules.Rules.{Rules}
 use Rattle.sig_txnode.specs.Node.{NodeView, files_told}
 use Rattle.sig_txnode.specs.Told.{TakerTold}
-use Rattle.sig_round.specs.Delivered.{SideView}
-use Rattle.sig_txlink.specs.Moment.{Line, desk_of, moment}
+use Rattle.sig_serving.specs.Side.{SideView}
+use Rattle.sig_txlink.specs.Moment.{desk_of, moment}
+use Rattle.sig_serving.specs.Door.{Comes, DoorView, GoesBack}
+use Rattle.sig_serving.specs.Line.{Line}
 use Rattle.sig_txlink.specs.Serving as link
 use Rattle.sig_txlink.specs.declared.log.LinkLog.{LinkLog}
-
--- of a door: the links that are coming and those that were served, where it tells them, how many are out, where it listens,
--- and its count of faults
-pub record DoorView : Type 0 where
-  pub coming : Option (List Coming)
-  pub served : Option (List Served)
-  pub out : ℕ
-  pub place : Option (List ℕ × ℕ)
-  pub faults : ℕ
-
-abbrev pub door_view : {A : Type 0} → (A → Option (List Coming)) → (A → Option (List Served)) → (A → ℕ) → (A → Option (List ℕ × ℕ)) → (A → ℕ) → A → DoorView
-door_view coming served out place faults door =
-    record { coming = coming door; served = served door; out = out door; place = place door; faults = faults door }
 
 -- of a node: its turns, the state before them, its rules, and whether the files of its store are told
 abbrev pub told_in : {D : Type 0} → (D → Bool) → NodeView D → TakerTold
@@ -37,21 +26,6 @@ abbrev pub watching : TakerTold → DoorView → Watching
 watching told door = record { told = told; door = door }
 
 -- ---- one link
-
--- the next link of the door, with its side: nothing was read, written or sent yet
-pub record Comes (old new : DoorView) (line : Line) (side : SideView) : Type 0 where
-  pub plan : LinkPlan
-  pub next : AcceptsNext old.coming new.coming plan line.left side.ahead side.times
-  pub written : Begins old.served line.written
-  pub sent : Begins old.served side.sent
-  pub whole : (line.reads ≡ 0) × (line.writes ≡ 0) × (side.faults ≡ 0)
-
--- the door has it back, with what was written to it and sent by its side; no more links are out than before it came
-pub record GoesBack (old new : DoorView) (line : Line) (side : SideView) : Type 0 where
-  pub served : new.served ≡ with_last old.served (served_of line.written side.sent)
-  pub out : IfSome old.served (λ list. new.out ≡ old.out)
-  pub place : new.place ≡ old.place
-  pub faults : new.faults ≡ old.faults
 
 -- a link came, was served from its first byte on under the number of its log, and went back; the log has its turns
 pub record ServesOne (rules : Rules) (log : LinkLog) (old new : Watching) : Type 0 where

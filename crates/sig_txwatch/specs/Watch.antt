@@ -1,13 +1,13 @@
 -- The links of a watch, one after the other, and the turns of their logs.
-use Rattle.std.specs.Prelude.{◌≡◌, ℕ, ◌+◌, ◌<◌, ◌==◌, Bool, true, false, List, [], ◌∷◌, All, filter, flat_map, length}
+use Rattle.std.specs.Prelude.{◌≡◌, ℕ, ◌+◌, ◌<◌, ◌==◌, List, [], ◌∷◌, All, filter, flat_map, length}
 use Rattle.sig_json.specs.declared.limits.TheConstants.{LINKS_PER_WATCH}
 use Rattle.sig_links.specs.Told.{IsShut}
 use Rattle.sig_terms.specs.declared.rules.Rules.{Rules}
 use Rattle.sig_txnode.specs.declared.turn.Turn.{Turn}
 use Rattle.sig_txlink.specs.declared.log.LinkLog.{LinkLog}
 use Rattle.sig_txwatch.specs.Links.{FailsOnce, ServesOne, Watching}
-use Rattle.sig_txwatch.specs.declared.stop.Stop.{Stop}
-use Rattle.sig_txwatch.specs.declared.stop.Stop.TheVariants.{Spent, Shut, Failed}
+use Rattle.sig_serving.specs.declared.stop.Stop.{Stop}
+use Rattle.sig_serving.specs.declared.stop.Stop.TheVariants.{Spent, Shut, Failed}
 
 -- links were served one after the other, numbered from this number on
 abbrev pub AreServed : Rules → ℕ → List LinkLog → Watching → Watching → Type 0
@@ -27,11 +27,6 @@ pub record Watches (rules : Rules) (stop : Stop) (logs : List LinkLog) (old new 
   pub between : Watching
   pub links : AreServed rules 1 logs old between
   pub stops : StopsBy stop (length logs) between new
-
-abbrev pub is_shut : Stop → Bool
-is_shut Spent = false
-is_shut Shut = true
-is_shut Failed = false
 
 -- ---- turns
 

@@ -18,10 +18,10 @@
 
 mod report;
 mod serving;
-mod stop;
 mod threads;
 mod watching;
 
-pub use report::{Differ, Report, WatchEnd};
+pub use report::{Report, WatchEnd};
+pub use sig_serving::Differ;
 pub use sig_txlink::{LinkEnd, LinkLog};
 pub use watching::serve_watch;

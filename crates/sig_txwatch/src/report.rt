@@ -1,6 +1,7 @@
 use sig_json::Items;
 use sig_outbox::Outbox;
 use sig_outside::Disk;
+use sig_serving::Differ;
 use sig_txlink::LinkLog;
 use sig_txnode::TxNode;
 
@@ -13,15 +14,6 @@ pub struct Report {
     pub links: Items<LinkLog>,
     /// Whether the door said that no further link will come.
     pub shut: bool,
-}
-
-/// Two kept values that differ, though they should be equal.
-#[derive(Clone, Copy, PartialEq, Eq)]
-pub enum Differ {
-    /// The turns of this link at this place, counted from 1, in the link's log and in the node.
-    Turn { link: u32, place: u64 },
-    /// The base of the report and the node's, or the rules of the links and the node's.
-    Base,
 }
 
 /// How a watch ended, with the node.

@@ -2,13 +2,14 @@
 
 ghost use Rattle.std.specs.Prelude.{◌≡◌, ◌≤◌, [], vec_capacity};
 ghost use Rattle.sig_json.specs.declared.limits.TheConstants.{LINKS_PER_WATCH};
-ghost use Rattle.sig_txwatch.specs.Links.{Answers, door_view, told_in, watching};
+ghost use Rattle.sig_txwatch.specs.Links.{Answers, told_in, watching};
+ghost use Rattle.sig_serving.specs.Door.{door_view};
 ghost use Rattle.sig_txwatch.specs.Watch.{Watches};
 
-use crate::stop::Stop;
 use sig_json::limits::LINKS_PER_WATCH;
 use sig_links::{Accepted, Door};
 use sig_outside::{Disk, Failed};
+use sig_serving::Stop;
 use sig_terms::Rules;
 use sig_txlink::{LinkLog, serve_link};
 use sig_txnode::TxNode;

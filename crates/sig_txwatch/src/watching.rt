@@ -4,17 +4,19 @@ ghost use Rattle.std.specs.Prelude.{◌≡◌, ◌≤◌, [], None, IfOk, OnErr,
 ghost use Rattle.sig_json.specs.declared.limits.TheConstants.{LINKS_PER_WATCH};
 ghost use Rattle.sig_txnode.specs.Node.{IsNode, begun};
 ghost use Rattle.sig_txwatch.specs.Ends.{Agrees, EndsBy, HandsBack, HasReport, IfReport, IsOneHistory, IsReported, WhyEnded};
-ghost use Rattle.sig_txwatch.specs.Links.{door_view, told_in, watching};
-ghost use Rattle.sig_txwatch.specs.Watch.{HasTurns, Watches, is_shut};
+ghost use Rattle.sig_txwatch.specs.Links.{told_in, watching};
+ghost use Rattle.sig_serving.specs.Door.{door_view};
+ghost use Rattle.sig_txwatch.specs.Watch.{HasTurns, Watches};
+ghost use Rattle.sig_serving.specs.Stops.{is_shut};
 
 use crate::serving::serve_links;
-use crate::stop::Stop;
 use crate::{Report, WatchEnd};
 use sig_json::limits::LINKS_PER_WATCH;
 use sig_json::{Items, Memory};
 use sig_links::Door;
 use sig_outbox::Outbox;
 use sig_outside::Disk;
+use sig_serving::Stop;
 use sig_terms::Rules;
 use sig_txlink::LinkLog;
 use sig_txnode::TxNode;

@@ -1,5 +1,5 @@
 use Rattle.std.proofs.Common.{◌≡◌, drop}
-use Rattle.sig_round.specs.Delivered.{view_of}
+use Rattle.sig_serving.specs.Side.{view_of}
 use Rattle.sig_round.proofs.GoingOn.{GoesOn}
 use Rattle.sig_round.proofs.delivering.deliver_all.Given as goal
 

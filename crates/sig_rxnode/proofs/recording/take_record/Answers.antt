@@ -1,4 +1,4 @@
-use Rattle.std.proofs.Common.{◌≡◌, ◌∙◌, ap, sym, ℕ, List, Result, Ok, Err}
+use Rattle.std.proofs.Common.{◌∙◌, ap, sym, ℕ, List, Result, Ok}
 use Rattle.sig_receiver.specs.Receiver.{received}
 use Rattle.sig_rxnode.specs.declared.recording.RecordFault.{RecordFault}
 use Rattle.sig_rxnode.proofs.TakingUp.{record_refused, record_taken, was_refused}

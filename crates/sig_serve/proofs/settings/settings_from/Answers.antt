@@ -1,16 +1,20 @@
-use Rattle.std.proofs.Common.{ap}
-use Rattle.sig_serve.proofs.ReadingLemmas.{err_halts, ok_says, others_named, tells_on}
+use Rattle.std.proofs.Common.{◌≡◌, ℕ, ◌+◌, ◌∙◌, List, Ok, IfSome, take, ap, sym, subst}
+use Rattle.sig_json.specs.declared.limits.TheConstants.{SETTINGS_BYTES}
+use Rattle.sig_opening.proofs.SettingsLemmas.{read_refused, read_says}
+use Rattle.sig_opening.specs.Settings.{HaltsSettings}
+use Rattle.sig_opening.specs.declared.unread.Unread.{Unread}
+use Rattle.sig_txsettings.specs.Settings.{tx_settings_of}
+use Rattle.sig_serve.proofs.SettingsLemmas.{tx_cut}
 use Rattle.sig_serve.proofs.settings.settings_from.Goals as goal
 
-pub returns-in-Ok-clause-says : goal.returns-in-Ok-clause-says
-returns-in-Ok-clause-says g c = ok_says _ _ c.read_settings-read.result c.in-Ok.ensures.bytes c.read_settings-read.ensures.says
+pub returns-in-Ok-tx_settings-clause-says : goal.returns-in-Ok-tx_settings-clause-says
+returns-in-Ok-tx_settings-clause-says g c =
+    read_says tx_settings_of tx_cut _ c.in-Ok.bytes.items (Ok c.in-Ok-tx_settings.said) c.in-Ok.ensures.bytes (ap tx_settings_of (sym c.as_slice.ensures.value) ∙ c.in-Ok-tx_settings.ensures.told)
 
 pub returns-in-Ok-clause-halts : goal.returns-in-Ok-clause-halts
 returns-in-Ok-clause-halts g c =
-    err_halts _ _ _ _ _ _ _ c.read_settings-read.result c.in-Ok.ensures.bytes c.in-Ok.ensures.cause.stays c.in-Ok.ensures.whole c.back_settings.ensures.faults c.read_settings-read.ensures.halts
-
-pub returns-in-Ok-clause-others : goal.returns-in-Ok-clause-others
-returns-in-Ok-clause-others g c = others_named _ _ _ _ c.in-Ok.ensures.others c.back_settings.ensures.settings
-
-pub returns-in-Err-clause-others : goal.returns-in-Err-clause-others
-returns-in-Err-clause-others g c = λ other apart. tells_on _ _ (ap (λ f. f other) c.in-Err.ensures.none)
+    let told = g.X.Outside.settings_of c.args.outside.now c.args.name.now in
+    let whole : IfSome told (λ all. c.as_slice.result.now ≡ take (SETTINGS_BYTES + 1) all) =
+    subst (λ (bytes : List ℕ). IfSome told (λ all. bytes ≡ take (SETTINGS_BYTES + 1) all)) (sym c.as_slice.ensures.value) c.in-Ok.ensures.bytes in
+    subst (λ (u : Unread). HaltsSettings tx_settings_of u told (g.X.Outside.settings_faults c.args.outside.now) (g.X.Outside.settings_faults c.bytes_from.new.outside)) (sym c.of_settings.ensures)
+    (read_refused tx_settings_of tx_cut told c.as_slice.result.now c.in-Err-tx_settings.fault _ _ whole c.in-Err-tx_settings.ensures.told)

@@ -1,42 +1,44 @@
 use Rattle.std.proofs.Common.{sym, subst, refl, map}
 use Rattle.std.specs.Prelude.{string_bytes}
 use Rattle.sig_command.specs.Moment.{output_state}
-use Rattle.sig_service.specs.Asking.{ServeAsked, init_of, serve_of}
+use Rattle.sig_service.specs.Asking.{ServerAsked, fetch_of, init_of, server_of}
+use Rattle.sig_service.specs.FetchRuns.{FetchRan}
 use Rattle.sig_service.specs.InitRuns.{InitRan}
-use Rattle.sig_service.specs.ServeRuns.{ServeRan, last_line, outside_state}
-use Rattle.sig_service.proofs.ServeAskingLemmas.{given_absent, given_none, given_same, given_some, given_told, serve_alone}
-use Rattle.sig_service.proofs.ServeEndLemmas.{serve_no_usage, served_whole}
+use Rattle.sig_service.specs.Outside.{outside_state}
+use Rattle.sig_service.specs.ServerRuns.{ServerRan, last_line}
+use Rattle.sig_service.proofs.ServerEndLemmas.{serve_no_usage, served_whole}
+use Rattle.sig_service.proofs.StoreAskingLemmas.{given_absent, given_none, given_same, given_some, given_told, server_alone}
 use Rattle.sig_service.proofs.running.run.Goals as goal
 
 pub returns-in-Some : goal.returns-in-Some
 returns-in-Some g c =
     let words = map (λ word. string_bytes word) c.args.words.now in
     let before = output_state (g.O.Sink.written c.args.output.now) (g.O.Sink.faults c.args.output.now) (g.O.Sink.stalls c.args.output.now) in
-    let after = output_state (g.O.Sink.written c.run_serve.new.output) (g.O.Sink.faults c.run_serve.new.output) (g.O.Sink.stalls c.run_serve.new.output) in
-    let old = outside_state (g.X.Outside.settings_of c.args.outside.now) (g.X.Outside.held c.args.outside.now) (g.X.Outside.doors c.args.outside.now) (g.X.Outside.doors_back c.args.outside.now)
-    (g.X.Outside.settings_faults c.args.outside.now) (g.X.Outside.store_faults c.args.outside.now) (g.X.Outside.network_faults c.args.outside.now) in
-    let now = outside_state (g.X.Outside.settings_of c.run_serve.new.outside) (g.X.Outside.held c.run_serve.new.outside) (g.X.Outside.doors c.run_serve.new.outside) (g.X.Outside.doors_back c.run_serve.new.outside)
-    (g.X.Outside.settings_faults c.run_serve.new.outside) (g.X.Outside.store_faults c.run_serve.new.outside) (g.X.Outside.network_faults c.run_serve.new.outside) in
-    let ran = λ (ask : ServeAsked). ServeRan ask old now before after c.run_serve.result in
-    let ends = c.run_serve.ensures in
+    let after = output_state (g.O.Sink.written c.run_server.new.output) (g.O.Sink.faults c.run_server.new.output) (g.O.Sink.stalls c.run_server.new.output) in
+    let old = outside_state g.X.Outside.settings_of g.X.Outside.held g.X.Outside.doors g.X.Outside.doors_back g.X.Outside.sides g.X.Outside.sides_back g.X.Outside.settings_faults g.X.Outside.store_faults g.X.Outside.network_faults c.args.outside.now in
+    let now = outside_state g.X.Outside.settings_of g.X.Outside.held g.X.Outside.doors g.X.Outside.doors_back g.X.Outside.sides g.X.Outside.sides_back g.X.Outside.settings_faults g.X.Outside.store_faults g.X.Outside.network_faults c.run_server.new.outside in
+    let ran = λ (ask : ServerAsked). ServerRan ask old now before after c.run_server.result in
+    let ends = c.run_server.ensures.ends in
     let given = c.in-Some.ensures in
-    let alone = serve_alone words _ given in
+    let alone = server_alone words _ given in
     record {
-      serve = given_told _ (serve_of words) ran given ends;
-      init = given_absent (init_of words) (λ ask. InitRan ask (g.X.Outside.held c.args.outside.now) (g.X.Outside.held c.run_serve.new.outside)
-          (g.X.Outside.store_faults c.args.outside.now) (g.X.Outside.store_faults c.run_serve.new.outside) before after c.run_serve.result) (sym alone.1);
-      plain = λ none. absurd (given_some _ (serve_of words) given none);
-      usage = λ one. absurd (serve_no_usage ends.0 (last_line ends.0) before after c.run_serve.result ends.2 one);
+      serves = given_told _ (server_of words) ran given ends;
+      fetches = given_absent (fetch_of words) (λ ask. FetchRan ask old now before after c.run_server.result) (sym alone.2);
+      init = given_absent (init_of words) (λ ask. InitRan ask (g.X.Outside.held c.args.outside.now) (g.X.Outside.held c.run_server.new.outside)
+          (g.X.Outside.store_faults c.args.outside.now) (g.X.Outside.store_faults c.run_server.new.outside) before after c.run_server.result) (sym alone.1);
+      plain = λ none. absurd (given_some _ (server_of words) given none);
+      usage = λ one. absurd (serve_no_usage ends.0 (last_line ends.0) before after c.run_server.result ends.2 one);
       unasked = λ none. refl;
-      served = λ ask named ready calm. served_whole ask old now before after c.run_serve.result ready calm (subst ran (given_same _ ask (serve_of words) given named) ends);
+      served = λ ask named ready calm. served_whole ask old now before after c.run_server.result ready calm (subst ran (given_same _ ask (server_of words) given named) ends);
+      fetched = λ ask named. absurd (given_none ask (fetch_of words) (sym alone.2) named);
       made = λ ask named. absurd (given_none ask (init_of words) (sym alone.1) named);
       complete = λ command told named. absurd (given_none command _ (sym alone.0) named);
       fold = λ iss aud key told named. absurd (given_none _ _ (sym alone.0) named);
-      untouched = λ none. absurd (given_some _ (serve_of words) given none);
-      settings = λ none. absurd (given_some _ (serve_of words) given none);
-      doors = λ none. absurd (given_some _ (serve_of words) given none);
-      sides = λ none. absurd (given_some _ (serve_of words) given none);
-      network = λ none. absurd (given_some _ (serve_of words) given none);
+      untouched = λ none. absurd (given_some _ (server_of words) given none);
+      settings = λ none. absurd (given_some _ (server_of words) given none);
+      doors = λ none. absurd (given_some _ (server_of words) given none);
+      sides = λ none. c.run_server.ensures.sides;
+      network = λ none. absurd (given_some _ (server_of words) given none);
     }
 
 pub returns-in-None : goal.returns-in-None
@@ -44,24 +46,24 @@ returns-in-None g c =
     let words = map (λ word. string_bytes word) c.args.words.now in
     let before = output_state (g.O.Sink.written c.args.output.now) (g.O.Sink.faults c.args.output.now) (g.O.Sink.stalls c.args.output.now) in
     let after = output_state (g.O.Sink.written c.run_plain.new.output) (g.O.Sink.faults c.run_plain.new.output) (g.O.Sink.stalls c.run_plain.new.output) in
-    let old = outside_state (g.X.Outside.settings_of c.args.outside.now) (g.X.Outside.held c.args.outside.now) (g.X.Outside.doors c.args.outside.now) (g.X.Outside.doors_back c.args.outside.now)
-    (g.X.Outside.settings_faults c.args.outside.now) (g.X.Outside.store_faults c.args.outside.now) (g.X.Outside.network_faults c.args.outside.now) in
-    let now = outside_state (g.X.Outside.settings_of c.run_plain.new.outside) (g.X.Outside.held c.run_plain.new.outside) (g.X.Outside.doors c.run_plain.new.outside) (g.X.Outside.doors_back c.run_plain.new.outside)
-    (g.X.Outside.settings_faults c.run_plain.new.outside) (g.X.Outside.store_faults c.run_plain.new.outside) (g.X.Outside.network_faults c.run_plain.new.outside) in
+    let old = outside_state g.X.Outside.settings_of g.X.Outside.held g.X.Outside.doors g.X.Outside.doors_back g.X.Outside.sides g.X.Outside.sides_back g.X.Outside.settings_faults g.X.Outside.store_faults g.X.Outside.network_faults c.args.outside.now in
+    let now = outside_state g.X.Outside.settings_of g.X.Outside.held g.X.Outside.doors g.X.Outside.doors_back g.X.Outside.sides g.X.Outside.sides_back g.X.Outside.settings_faults g.X.Outside.store_faults g.X.Outside.network_faults c.run_plain.new.outside in
     let did = c.run_plain.ensures in
     record {
-      serve = given_absent (serve_of words) (λ ask. ServeRan ask old now before after c.run_plain.result) c.in-None.ensures;
+      serves = given_absent (server_of words) (λ ask. ServerRan ask old now before after c.run_plain.result) c.in-None.ensures;
+      fetches = did.fetches;
       init = did.init;
       plain = λ none. did.plain;
-      usage = λ one. let both = did.usage one in (both.0, both.1, sym c.in-None.ensures);
+      usage = λ one. let both = did.usage one in (both.0, both.1, sym c.in-None.ensures, both.2);
       unasked = did.unasked;
-      served = λ ask named ready calm. absurd (given_none ask (serve_of words) c.in-None.ensures named);
+      served = λ ask named ready calm. absurd (given_none ask (server_of words) c.in-None.ensures named);
+      fetched = did.fetched;
       made = did.made;
       complete = did.complete;
       fold = did.fold;
       untouched = λ none. did.untouched;
       settings = λ none. did.settings;
       doors = λ none. did.doors;
-      sides = λ none. did.sides;
+      sides = did.sides;
       network = λ none. did.network;
     }

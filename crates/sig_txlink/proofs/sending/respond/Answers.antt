@@ -1,7 +1,7 @@
 use Rattle.std.proofs.Common.{ap}
 use Rattle.sig_http.specs.Spelling.{response_spelling}
 use Rattle.sig_txlink.specs.Answering.{text_of}
-use Rattle.sig_txlink.proofs.WritingLemmas.{responds_as, responds_out}
+use Rattle.sig_serving.proofs.WritingLemmas.{responds_as, responds_out}
 use Rattle.sig_txlink.proofs.sending.respond.Goals as goal
 
 pub returns-in-Ok-clause-responds : goal.returns-in-Ok-clause-responds

@@ -1,7 +1,8 @@
 use Rattle.std.proofs.Common.{◌≡◌, ◌≤◌, ◌-◌}
 use Rattle.sig_json.specs.declared.limits.TheConstants.{REQUESTS_PER_LINK}
-use Rattle.sig_round.specs.Delivered.{view_of}
-use Rattle.sig_txlink.specs.Moment.{desk_of, moment, seen}
+use Rattle.sig_serving.specs.Side.{view_of}
+use Rattle.sig_txlink.specs.Moment.{desk_of, moment}
+use Rattle.sig_serving.specs.Line.{seen}
 use Rattle.sig_txlink.specs.Serving.{Standing}
 use Rattle.sig_txlink.proofs.serving.serve_all.Given as goal
 

@@ -1,7 +1,7 @@
 use Rattle.std.proofs.Common.{ap, Err}
 use Rattle.sig_outside.specs.Causes.{Aside}
 use Rattle.sig_txlink.proofs.PassLemmas.{passes_none, passes_read, passes_refused}
-use Rattle.sig_txlink.proofs.WritingLemmas.{beside_kept}
+use Rattle.sig_serving.proofs.WritingLemmas.{beside_kept}
 use Rattle.sig_txlink.proofs.serving.serve_next.Goals as goal
 
 pub returns-in-Request-clause-passes : goal.returns-in-Request-clause-passes

@@ -1,7 +1,8 @@
 use Rattle.std.proofs.Common.{◌≡◌, ◌≤◌, length}
 use Rattle.std.specs.Prelude.{vec_capacity}
 use Rattle.sig_json.specs.declared.limits.TheConstants.{LINKS_PER_WATCH}
-use Rattle.sig_txwatch.specs.Links.{door_view, told_in, watching}
+use Rattle.sig_txwatch.specs.Links.{told_in, watching}
+use Rattle.sig_serving.specs.Door.{door_view}
 use Rattle.sig_txwatch.specs.Watch.{AreServed}
 use Rattle.sig_txwatch.proofs.serving.serve_links.Given as goal
 

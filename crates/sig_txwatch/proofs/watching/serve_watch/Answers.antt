@@ -1,6 +1,6 @@
 use Rattle.sig_txnode.specs.Node.{begun}
 use Rattle.sig_txwatch.specs.Ends.{IfReport}
-use Rattle.sig_txwatch.specs.Links.{door_view}
+use Rattle.sig_serving.specs.Door.{door_view}
 use Rattle.sig_txwatch.proofs.EndLemmas.{WasServed, has_history, has_report, has_turns, reported_agrees, reported_hands, served_from}
 use Rattle.sig_txwatch.proofs.watching.serve_watch.Goals as goal
 

@@ -1,6 +1,6 @@
 use Rattle.std.proofs.Common.{◌≡◌, refl}
 use Rattle.sig_txnode.specs.Node.{IsNode}
-use Rattle.sig_txwatch.specs.Links.{door_view}
+use Rattle.sig_serving.specs.Door.{door_view}
 use Rattle.sig_txwatch.proofs.EndLemmas.{WasServed, ends_reported, reported, why_ended}
 use Rattle.sig_txwatch.proofs.watching.watch.Goals as goal
 

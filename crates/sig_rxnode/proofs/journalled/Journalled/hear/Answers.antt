@@ -1,8 +1,8 @@
-use Rattle.std.proofs.Common.{◌≡◌, ◌∙◌, ap, sym, subst, ℕ, List, [], ◌∷◌, true, Option, Result, Ok, Err, option_copied}
+use Rattle.std.proofs.Common.{◌≡◌, ◌∙◌, ap, sym, subst, ℕ, List, [], ◌∷◌, Result, Ok, Err, option_copied}
 use Rattle.std.proofs.Common.{rules}
 use Rattle.std.specs.Prelude.{⊤, is_some}
 use Rattle.sig_receiver.specs.declared.heard.Heard.{Heard}
-use Rattle.sig_receiver.specs.Receiver.{Received, is_accepted, received}
+use Rattle.sig_receiver.specs.Receiver.{Received, received}
 use Rattle.sig_store.specs.declared.fault.NodeFault.{NodeFault}
 use Rattle.sig_rxnode.specs.Answers.{heard_texts}
 use Rattle.sig_rxnode.specs.Holding.{Holding}

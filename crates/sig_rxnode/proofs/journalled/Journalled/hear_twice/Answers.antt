@@ -1,10 +1,9 @@
-use Rattle.std.proofs.Common.{◌≡◌, ◌∙◌, ap, sym, ℕ, List, Option, Result, Ok, Err, refl, option_copied}
+use Rattle.std.proofs.Common.{Result, Ok, Err, refl}
 use Rattle.sig_receiver.specs.declared.heard.Heard.{Heard}
 use Rattle.sig_receiver.specs.Receiver.{received}
 use Rattle.sig_store.specs.declared.fault.NodeFault.{NodeFault}
-use Rattle.sig_rxnode.specs.declared.answer.RxAnswer.{RxAnswer}
 use Rattle.sig_rxnode.specs.declared.journalled.Told.{Told}
-use Rattle.sig_rxnode.specs.Answers.{heard_answer, heard_texts}
+use Rattle.sig_rxnode.specs.Answers.{heard_answer}
 use Rattle.sig_rxnode.specs.Parts.{holding_of}
 use Rattle.sig_rxnode.proofs.Hearing.{causes_over, writes_over}
 use Rattle.sig_rxnode.proofs.Mapping.{causes_map, same_texts, writes_map}

@@ -1,14 +1,13 @@
 use Rattle.std.proofs.Common.{◌≡◌, ◌∙◌, ap, sym, subst, ℕ, List, [], ◌∷◌, ◌++◌, Result, Ok, Err, refl}
 use Rattle.std.specs.Prelude.{⊤}
 use Rattle.sig_journal.specs.declared.journal.AppendFault.{AppendFault}
-use Rattle.sig_entry.specs.Tokens.{token_spelling}
 use Rattle.sig_receiver.specs.Receiver.{received}
 use Rattle.sig_store.specs.Appended.{HasRecord}
 use Rattle.sig_store.specs.declared.fault.NodeFault.{NodeFault}
 use Rattle.sig_rxnode.specs.Holding.{Holding}
 use Rattle.sig_rxnode.specs.Journals.{Causes, Writes}
 use Rattle.sig_rxnode.specs.Parts.{holding_of}
-use Rattle.sig_rxnode.proofs.Journalling.{carried, holds_after, spelled_causes, spelled_fault, spelled_writes}
+use Rattle.sig_rxnode.proofs.Journalling.{holds_after, spelled_causes, spelled_fault, spelled_writes}
 use Rattle.sig_rxnode.proofs.journalled.Journalled.journal.Goals as goal
 
 pub returns-in-Ok-clause-writes : goal.returns-in-Ok-clause-writes

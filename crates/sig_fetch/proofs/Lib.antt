@@ -1,0 +1,9 @@
+pub mod Collecting
+pub mod Growing
+pub mod Halting
+pub mod TakenLemmas
+pub mod Sides
+pub mod OneRound
+pub mod Keeping
+pub mod MoreRounds
+pub mod Tallying

@@ -1,0 +1,9 @@
+pub mod Reading
+pub mod Stays
+pub mod Settings
+pub mod Files
+pub mod Ends
+pub mod Closing
+pub mod Watches
+pub mod Door
+pub mod Serving

@@ -1,0 +1,54 @@
+ghost use Rattle.std.specs.Prelude.{◌≡◌};
+ghost use Rattle.sig_opening.specs.Ends.{of_load, of_unread};
+
+use crate::Unread;
+use sig_journal::LoadFault;
+use sig_json::Text;
+use sig_serving::Differ;
+
+/// How the serving of a store ended, be it a transmitter's or a receiver's.
+#[derive(PartialEq, Eq, Drop)]
+pub enum ServeEnd {
+    /// As many watches ran as were asked for, or a watch reports that its door is shut.
+    Done,
+    /// The settings couldn't be opened, or reading them failed. The outside counted it as a fault of the settings.
+    SettingsFailed,
+    /// This member of the settings is missing or wrong; it is `length` where there are too many bytes, and `body` where they
+    /// spell no JSON object. No file of the store was opened.
+    Refused(Text),
+    /// A file of the store couldn't be opened, or its disk failed. The outside counted it as a fault of the stores.
+    StoreFailed,
+    /// The bytes of a file of the store, 0 for the first and 1 for the second, are no journal at this offset, or the record
+    /// whose gate stands there is none that the node takes up. The door wasn't opened.
+    Damaged { file: u8, at: u64 },
+    /// The door couldn't be opened, or it failed. The outside counted it as a fault of the network.
+    NetworkFailed,
+    /// These two kept values differ. It doesn't come while links are served one after the other.
+    Disagree(Differ),
+    /// Out of memory. Fewer watches ran than were asked for.
+    Memory,
+}
+
+impl ServeEnd {
+    /// The end where no settings were read, for this cause.
+    pub fn of_unread(cause: Unread) -> ServeEnd
+        ensures { result ≡ of_unread cause }
+    {
+        match cause {
+            Unread::Failed => ServeEnd::SettingsFailed,
+            Unread::Refused(member) => ServeEnd::Refused(member),
+            Unread::Memory => ServeEnd::Memory,
+        }
+    }
+
+    /// The end where no node was loaded, for this fault.
+    pub fn of_load(fault: LoadFault) -> ServeEnd
+        ensures { result ≡ of_load fault }
+    {
+        match fault {
+            LoadFault::Store => ServeEnd::StoreFailed,
+            LoadFault::Damaged { file, at } => ServeEnd::Damaged { file, at },
+            LoadFault::Memory => ServeEnd::Memory,
+        }
+    }
+}

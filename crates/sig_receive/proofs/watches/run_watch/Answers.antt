@@ -1,0 +1,36 @@
+use Rattle.std.proofs.Common.{◌∙◌, ap}
+use Rattle.sig_serving.specs.Door.{door_view}
+use Rattle.sig_rxwatch.specs.declared.report.RxReport.{RxReport}
+use Rattle.sig_opening.specs.declared.ending.ServeEnd.TheVariants.{Done, StoreFailed, NetworkFailed}
+use Rattle.sig_opening.proofs.WatchLemmas.{goes_on, if_none, if_shut, stops_before, stops_with}
+use Rattle.sig_receive.specs.Door.{with_door}
+use Rattle.sig_receive.specs.Watches.{IsWatch, reports_shut}
+use Rattle.sig_receive.proofs.RunLemmas.{watch_is}
+use Rattle.sig_receive.proofs.watches.run_watch.Goals as goal
+
+pub returns-in-Done-clause-goes_on : goal.returns-in-Done-clause-goes_on
+returns-in-Done-clause-goes_on g c =
+    let watch = watch_is g.D.Disk.told g.D.Disk.seen g.D.Disk.may_leave c.args.node c.in-Done.node c.in-Done.report _ _ _ c.in-Done.ensures.report c.in-Done.ensures.history c.in-Done.ensures.links c.in-Done.ensures.turns in
+    if_none c.end_after.result _ (goes_on (IsWatch c.args.node.rules) _ _ watch.0 watch.2)
+
+pub returns-in-Done-clause-stops : goal.returns-in-Done-clause-stops
+returns-in-Done-clause-stops g c =
+    let watch = watch_is g.D.Disk.told g.D.Disk.seen g.D.Disk.may_leave c.args.node c.in-Done.node c.in-Done.report _ _ _ c.in-Done.ensures.report c.in-Done.ensures.history c.in-Done.ensures.links c.in-Done.ensures.turns in
+    if_shut c.in-Done.report.shut c.end_after.result _ c.end_after.ensures
+    (λ shut. stops_with (IsWatch c.args.node.rules) reports_shut Done _ _ watch.0 tt (λ memory. absurd cc) (λ done. ap (λ (r : RxReport). r.shut) watch.1 ∙ shut) watch.2)
+
+pub returns-in-DoorFault-clause-stops : goal.returns-in-DoorFault-clause-stops
+returns-in-DoorFault-clause-stops g c =
+    let watch = watch_is g.D.Disk.told g.D.Disk.seen g.D.Disk.may_leave c.args.node c.in-DoorFault.node c.in-DoorFault.report _ _ _ c.in-DoorFault.ensures.report c.in-DoorFault.ensures.history c.in-DoorFault.ensures.links c.in-DoorFault.ensures.turns in
+    stops_with (IsWatch c.args.node.rules) reports_shut NetworkFailed _ _ watch.0 tt (λ memory. absurd cc) (λ done. absurd cc) watch.2
+
+pub returns-in-Broken-clause-stops : goal.returns-in-Broken-clause-stops
+returns-in-Broken-clause-stops g c =
+    let watch = watch_is g.D.Disk.told g.D.Disk.seen g.D.Disk.may_leave c.args.node c.in-Broken.node c.in-Broken.report _ _ _ c.in-Broken.ensures.report c.in-Broken.ensures.history c.in-Broken.ensures.links c.in-Broken.ensures.turns in
+    stops_with (IsWatch c.args.node.rules) reports_shut StoreFailed _ _ watch.0 tt (λ memory. absurd cc) (λ done. absurd cc) watch.2
+
+pub returns-in-Memory-clause-stops : goal.returns-in-Memory-clause-stops
+returns-in-Memory-clause-stops g c =
+    let same = c.in-Memory.ensures.memory in
+    stops_before (IsWatch c.args.node.rules) reports_shut _ _
+    (λ i. with_door g.D.Disk.told (same.0 i) (door_view g.A.Door.coming g.A.Door.served g.A.Door.out g.A.Door.place g.A.Door.faults (same.1 i)))

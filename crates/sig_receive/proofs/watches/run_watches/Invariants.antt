@@ -1,0 +1,15 @@
+use Rattle.std.proofs.Common.{◌≡◌, None}
+use Rattle.sig_serving.specs.Door.{door_view}
+use Rattle.sig_opening.proofs.WatchLemmas.{Ran}
+use Rattle.sig_receive.specs.Door.{with_door}
+use Rattle.sig_receive.specs.Watches.{IsWatch}
+use Rattle.sig_receive.proofs.watches.run_watches.Given as goal
+
+abbrev pub invariant-loop : goal.invariant-loop
+invariant-loop g l = record {
+  ran : Ran (IsWatch l.fn.node.rules) l.counter
+      (with_door g.D.Disk.told l.fn.node (door_view g.A.Door.coming g.A.Door.served g.A.Door.out g.A.Door.place g.A.Door.faults l.fn.door))
+      (with_door g.D.Disk.told l.node (door_view g.A.Door.coming g.A.Door.served g.A.Door.out g.A.Door.place g.A.Door.faults l.door));
+  rules : l.node.rules ≡ l.fn.node.rules;
+  whole : l.node.kept.store.broken_at ≡ None;
+}

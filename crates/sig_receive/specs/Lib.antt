@@ -1,0 +1,9 @@
+pub mod Ends
+pub mod Opening
+pub mod Watches
+pub mod Closing
+pub mod Door
+pub mod Serving
+pub mod Peers
+pub mod Sides
+pub mod Fetching

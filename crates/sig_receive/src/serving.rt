@@ -1,0 +1,131 @@
+//! A run from the settings to the end.
+
+ghost use Rattle.std.specs.Prelude.{◌≡◌, ◌≢◌, ℕ, List, None};
+ghost use Rattle.sig_init.specs.Files.{KeepsBut, StaysTold, file_a, file_b};
+ghost use Rattle.sig_opening.specs.Door.{doors_of};
+ghost use Rattle.sig_opening.specs.Ends.{BreaksBy, fails_by};
+ghost use Rattle.sig_opening.specs.Serving.{around};
+ghost use Rattle.sig_opening.specs.Stays.{KeepsOtherSettings};
+ghost use Rattle.sig_outside.specs.Causes.{Rose};
+ghost use Rattle.sig_receive.specs.Door.{ServesAt};
+ghost use Rattle.sig_receive.specs.Ends.{AreRefused, IsDamaged};
+ghost use Rattle.sig_receive.specs.Serving.{Serves, ServesBy};
+
+use crate::ServeEnd;
+use crate::opening::{give_back, open};
+use crate::settings::settings_from;
+use crate::watches::{Served, run_watches};
+use sig_init::{FileNames, file_names};
+use sig_links::Outside;
+use sig_outside::Place;
+use sig_rxnode::RxNode;
+use sig_rxsettings::RxSettings;
+use std::alloc::Global;
+use std::sync::Wait;
+
+/// Serves a receiver: reads the settings of this name, loads the store of this name, opens the door at the settings'
+/// listening place, and runs so many watches, or fewer where a watch reports that the door is shut, where the door or the
+/// store fails, or where memory runs out. It may wait for the door and the links.
+///
+/// The settings are read first, then the store is opened, then the door; what was opened is given back before the end, the
+/// settings as soon as they are read.
+pub fn receive<R: Wait, X: Outside>(
+    alloc: Global,
+    rt: &R,
+    settings: &str,
+    store: &str,
+    watches: u64,
+    outside: &mut X,
+) -> ServeEnd
+    // The causes of the ends.
+    ensures settings_failed { result ≡ ServeEnd.SettingsFailed → Rose (X.settings_faults outside.old) (X.settings_faults outside.new) }
+    ensures refused { (member : List ℕ) → result ≡ ServeEnd.Refused member → AreRefused (X.settings_of outside.old settings.now) member }
+    ensures store_failed { result ≡ ServeEnd.StoreFailed → Rose (X.store_faults outside.old) (X.store_faults outside.new) }
+    ensures damaged { (file at : ℕ) → result ≡ ServeEnd.Damaged file at → IsDamaged (X.held outside.old (file_a store.now)) (X.held outside.old (file_b store.now)) file at }
+    ensures network_failed { result ≡ ServeEnd.NetworkFailed → Rose (X.network_faults outside.old) (X.network_faults outside.new) }
+
+    // The watches, from the store that was opened to the one that is put back.
+    ensures serves { ServesBy (X.settings_of outside.old settings.now) result watches
+        (around X.held X.doors X.doors_back (file_a store.now) (file_b store.now) outside.old)
+        (around X.held X.doors X.doors_back (file_a store.now) (file_b store.now) outside.new) }
+
+    // What was opened is given back: a store that was told is told again.
+    ensures back { StaysTold (X.held outside.old) (X.held outside.new) (file_a store.now) × StaysTold (X.held outside.old) (X.held outside.new) (file_b store.now) }
+    ensures others { KeepsBut (file_a store.now) (file_b store.now) (X.held outside.old) (X.held outside.new) }
+    ensures settings { KeepsOtherSettings settings.now (X.settings_of outside.old) (X.settings_of outside.new) }
+    ensures sides { (X.sides outside.new ≡ X.sides outside.old) × (X.sides_out outside.new ≡ X.sides_out outside.old) × (X.sides_back outside.new ≡ X.sides_back outside.old) }
+{
+    let said = match settings_from(alloc, settings, outside) {
+        Ok(said) => said,
+        Err(cause) => return ServeEnd::of_unread(cause),
+    };
+    match file_names(alloc, store) {
+        Ok(names) => serve_store(alloc, rt, said, &names, watches, outside),
+        Err(_) => ServeEnd::Memory,
+    }
+}
+
+// Serves the store of these files by these settings.
+fn serve_store<R: Wait, X: Outside>(
+    alloc: Global,
+    rt: &R,
+    said: RxSettings,
+    names: &FileNames,
+    watches: u64,
+    outside: &mut X,
+) -> ServeEnd
+    requires apart { names.now.a ≢ names.now.b }
+    ensures settings_failed { result ≢ ServeEnd.SettingsFailed }
+    ensures refused { (member : List ℕ) → result ≢ ServeEnd.Refused member }
+    ensures store_failed { result ≡ ServeEnd.StoreFailed → Rose (X.store_faults outside.old) (X.store_faults outside.new) }
+    ensures damaged { (file at : ℕ) → result ≡ ServeEnd.Damaged file at → IsDamaged (X.held outside.old names.now.a) (X.held outside.old names.now.b) file at }
+    ensures network_failed { result ≡ ServeEnd.NetworkFailed → Rose (X.network_faults outside.old) (X.network_faults outside.new) }
+    ensures serves { Serves said result watches
+        (around X.held X.doors X.doors_back names.now.a names.now.b outside.old)
+        (around X.held X.doors X.doors_back names.now.a names.now.b outside.new) }
+    ensures back { StaysTold (X.held outside.old) (X.held outside.new) names.now.a × StaysTold (X.held outside.old) (X.held outside.new) names.now.b }
+    ensures others { KeepsBut names.now.a names.now.b (X.held outside.old) (X.held outside.new) }
+    ensures settings { X.settings_of outside.new ≡ X.settings_of outside.old }
+    ensures sides { (X.sides outside.new ≡ X.sides outside.old) × (X.sides_out outside.new ≡ X.sides_out outside.old) × (X.sides_back outside.new ≡ X.sides_back outside.old) }
+{
+    let RxSettings { rules, listen } = said;
+    match open(alloc, rules, names, outside) {
+        Ok(node) => {
+            let Served { node, end } = serve_at(alloc, rt, node, &listen, watches, outside);
+            give_back(node, names, outside);
+            end
+        }
+        Err(fault) => ServeEnd::of_load(fault),
+    }
+}
+
+// Serves a node at a door of this place, which is given back.
+fn serve_at<R: Wait, X: Outside>(
+    alloc: Global,
+    rt: &R,
+    node: RxNode<X::D>,
+    place: &Place,
+    watches: u64,
+    outside: &mut X,
+) -> Served<X::D>
+    requires { node.kept.store.broken_at ≡ None }
+    ensures serves { ServesAt X.D.told place.now result.end watches (doors_of (X.doors outside.old) (X.doors_back outside.old)) (doors_of (X.doors outside.new) (X.doors_back outside.new)) node result.node }
+    ensures breaks { BreaksBy (fails_by result.end) result.node.kept.store.broken_at }
+    ensures network { result.end ≡ ServeEnd.NetworkFailed → Rose (X.network_faults outside.old) (X.network_faults outside.new) }
+    ensures stores { (X.held outside.new ≡ X.held outside.old) × (X.lent outside.new ≡ X.lent outside.old) × (X.store_faults outside.new ≡ X.store_faults outside.old) }
+    ensures settings { X.settings_of outside.new ≡ X.settings_of outside.old }
+    ensures sides { (X.sides outside.new ≡ X.sides outside.old) × (X.sides_out outside.new ≡ X.sides_out outside.old) × (X.sides_back outside.new ≡ X.sides_back outside.old) }
+{
+    match outside.door(place) {
+        Ok(door) => {
+            let mut door = door;
+            let served = run_watches(alloc, rt, node, watches, &mut door);
+            outside.back_door(door);
+            served
+        }
+        Err(_) => Served {
+            node,
+            end: ServeEnd::NetworkFailed,
+        },
+    }
+}

@@ -1,0 +1,111 @@
+//! The watches of a run, one after the other.
+
+ghost use Rattle.std.specs.Prelude.{◌≡◌, ◌<◌, IfNone, IfSome, None, Some, if◌then◌else◌};
+ghost use Rattle.sig_serving.specs.Door.{door_view};
+ghost use Rattle.sig_opening.specs.Ends.{BreaksBy, fails_by};
+ghost use Rattle.sig_opening.specs.Watches.{GoesOn, RunsTo, StopsAt};
+ghost use Rattle.sig_receive.specs.Door.{with_door};
+ghost use Rattle.sig_receive.specs.Watches.{IsWatch, reports_shut};
+
+use crate::ServeEnd;
+use sig_links::Door;
+use sig_outside::Disk;
+use sig_rxnode::RxNode;
+use sig_rxwatch::{RxWatchEnd, serve_watch};
+use std::alloc::Global;
+use std::sync::Wait;
+
+/// A node after its watches, and how they ended.
+pub struct Served<D: Disk> {
+    pub node: RxNode<D>,
+    pub end: ServeEnd,
+}
+
+// A node after one watch, and how the run ends with it, where it doesn't go on.
+struct Watched<D: Disk> {
+    node: RxNode<D>,
+    end: Option<ServeEnd>,
+}
+
+/// Runs so many watches, or fewer: it goes on after none that reports a shut door, nor after one that fails.
+pub fn run_watches<R: Wait, D: Disk, A: Door>(
+    alloc: Global,
+    rt: &R,
+    node: RxNode<D>,
+    watches: u64,
+    door: &mut A,
+) -> Served<D>
+    requires { node.kept.store.broken_at ≡ None }
+    ensures runs { RunsTo (IsWatch node.rules) reports_shut result.end watches
+        (with_door D.told node (door_view A.coming A.served A.out A.place A.faults door.old))
+        (with_door D.told result.node (door_view A.coming A.served A.out A.place A.faults door.new)) }
+    ensures breaks { BreaksBy (fails_by result.end) result.node.kept.store.broken_at }
+    ensures network { result.end ≡ ServeEnd.NetworkFailed → 0 < A.faults door.new }
+{
+    let mut node = node;
+    for _ in 0..watches {
+        let Watched { node: next, end } = run_watch(alloc, rt, node, door);
+        node = next;
+        if let Some(end) = end {
+            return Served { node, end };
+        }
+    }
+    Served {
+        node,
+        end: ServeEnd::Done,
+    }
+}
+
+// Runs one watch.
+fn run_watch<R: Wait, D: Disk, A: Door>(
+    alloc: Global,
+    rt: &R,
+    node: RxNode<D>,
+    door: &mut A,
+) -> Watched<D>
+    requires { node.kept.store.broken_at ≡ None }
+    ensures rules { result.node.rules ≡ node.rules }
+    ensures goes_on { IfNone result.end (GoesOn (IsWatch node.rules)
+        (with_door D.told node (door_view A.coming A.served A.out A.place A.faults door.old))
+        (with_door D.told result.node (door_view A.coming A.served A.out A.place A.faults door.new))) }
+    ensures stops { IfSome result.end (λ end. StopsAt (IsWatch node.rules) reports_shut end
+        (with_door D.told node (door_view A.coming A.served A.out A.place A.faults door.old))
+        (with_door D.told result.node (door_view A.coming A.served A.out A.place A.faults door.new))) }
+    ensures whole { IfNone result.end (result.node.kept.store.broken_at ≡ None) }
+    ensures breaks { IfSome result.end (λ end. BreaksBy (fails_by end) result.node.kept.store.broken_at) }
+    ensures network { IfSome result.end (λ end. end ≡ ServeEnd.NetworkFailed → 0 < A.faults door.new) }
+{
+    match serve_watch(alloc, rt, node, door) {
+        RxWatchEnd::Done { node, report } => Watched {
+            node,
+            end: end_after(report.shut),
+        },
+        RxWatchEnd::DoorFault { node, report: _ } => Watched {
+            node,
+            end: Some(ServeEnd::NetworkFailed),
+        },
+        RxWatchEnd::Broken { node, report: _ } => Watched {
+            node,
+            end: Some(ServeEnd::StoreFailed),
+        },
+        RxWatchEnd::Disagree {
+            node,
+            differ,
+            report: _,
+        } => Watched {
+            node,
+            end: Some(ServeEnd::Disagree(differ)),
+        },
+        RxWatchEnd::Memory { node } => Watched {
+            node,
+            end: Some(ServeEnd::Memory),
+        },
+    }
+}
+
+// How the run ends after a watch that reports so of its door.
+fn end_after(shut: bool) -> Option<ServeEnd>
+    ensures { result ≡ (if shut then Some ServeEnd.Done else None) }
+{
+    if shut { Some(ServeEnd::Done) } else { None }
+}

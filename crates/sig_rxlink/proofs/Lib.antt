@@ -1,0 +1,5 @@
+pub mod AnswerLemmas
+pub mod ChainLemmas
+pub mod EndLemmas
+pub mod PassLemmas
+pub mod TurnLemmas

@@ -1,0 +1,19 @@
+use Rattle.std.proofs.Common.{◌≡◌, ◌≤◌, ◌-◌}
+use Rattle.sig_json.specs.declared.limits.TheConstants.{REQUESTS_PER_LINK}
+use Rattle.sig_serving.specs.Line.{seen}
+use Rattle.sig_rxlink.specs.Moment.{desk_of, moment}
+use Rattle.sig_rxlink.specs.Serving.{Standing}
+use Rattle.sig_rxlink.proofs.serving.serve_all.Given as goal
+
+abbrev pub invariant-loop-work : goal.invariant-loop-work
+invariant-loop-work g l = record {
+  few : l.work.answered ≤ REQUESTS_PER_LINK;
+  link : l.work.link ≡ l.fn.work.link;
+  place : g.L.Link.dialled l.stream ≡ g.L.Link.dialled l.fn.stream;
+  standing : Standing l.rules l.fn.work.link l.work.answered
+      (moment l.fn.work.kept (seen g.L.Source.left g.L.Sink.written g.L.Source.faults g.L.Sink.faults l.fn.stream) (desk_of (g.K.RxTaker.told l.fn.taker) l.fn.work.turns.items))
+      (moment l.work.kept (seen g.L.Source.left g.L.Sink.written g.L.Source.faults g.L.Sink.faults l.stream) (desk_of (g.K.RxTaker.told l.taker) l.work.turns.items));
+}
+
+abbrev pub decreases-loop-work : goal.decreases-loop-work
+decreases-loop-work g l = REQUESTS_PER_LINK - l.work.answered

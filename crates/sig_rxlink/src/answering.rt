@@ -1,0 +1,46 @@
+//! The response to what came of a request.
+
+ghost use Rattle.std.specs.Prelude.{◌≡◌, IfOk};
+ghost use Rattle.sig_rxlink.specs.Answering as spec;
+
+use crate::course::Course;
+use sig_http::{Response, refusal_of};
+use sig_json::{Bytes, Items, Memory};
+use sig_rxnode::{RxAnswer, RxFault};
+use sig_rxroutes::response_of;
+use std::alloc::Global;
+
+// The response to what came of a request, which says whether the link closes after it.
+pub fn response_to(alloc: Global, course: &Course, close: bool) -> Result<Response, Memory>
+    ensures { IfOk result (λ response. response ≡ spec.closing close (spec.response_to course.now)) }
+{
+    let mut response = match course {
+        Course::Refused(refusal) => refusal_of(alloc, refusal)?,
+        Course::Turned(turn) => response_in(alloc, &turn.result)?,
+    };
+    response.close = close;
+    Ok(response)
+}
+
+// The response to the result of a turn (RFC 9110, sections 15.6.1 and 15.6.4).
+fn response_in(alloc: Global, given: &Result<RxAnswer, RxFault>) -> Result<Response, Memory>
+    ensures { IfOk result (λ response. response ≡ spec.response_in given.now) }
+{
+    match given {
+        Ok(answer) => response_of(alloc, answer),
+        Err(RxFault::Store) => Ok(empty(alloc, 503)),
+        Err(RxFault::Full(_)) => Ok(empty(alloc, 500)),
+        Err(RxFault::Memory) => Err(Memory),
+    }
+}
+
+fn empty(alloc: Global, status: u16) -> Response
+    ensures { result ≡ spec.empty status }
+{
+    Response {
+        status,
+        headers: Items::of(Vec::new(alloc)),
+        close: false,
+        body: Bytes::new(alloc),
+    }
+}

@@ -1,0 +1,5 @@
+pub mod AskLemmas
+pub mod NumberLemmas
+pub mod ReplyLemmas
+pub mod RouteLemmas
+pub mod WholeRows

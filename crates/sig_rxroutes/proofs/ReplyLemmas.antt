@@ -1,0 +1,15 @@
+-- What responses tell.
+use Rattle.std.proofs.Common.{refl}
+use Rattle.sig_delivery.proofs.CodesBack.{settles_by_code}
+use Rattle.sig_rxnode.specs.declared.answer.RxAnswer.TheVariants as answer
+use Rattle.sig_rxroutes.specs.Laws.{LeavesLinksOpen, SettlesPushes}
+
+pub leaves_links_open : LeavesLinksOpen
+leaves_links_open answer.Accepted = refl
+leaves_links_open answer.Seen = refl
+leaves_links_open (answer.Refused code spot) = refl
+leaves_links_open (answer.Verdict verdict) = refl
+leaves_links_open (answer.Rows rows) = refl
+
+pub settles_pushes : SettlesPushes
+settles_pushes = record { accepted = refl; seen = refl; refused = settles_by_code }

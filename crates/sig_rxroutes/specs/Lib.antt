@@ -1,0 +1,6 @@
+pub mod Answers
+pub mod Asked
+pub mod Calls
+pub mod Documents
+pub mod Laws
+pub mod Routes

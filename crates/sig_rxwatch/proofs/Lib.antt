@@ -1,0 +1,4 @@
+pub mod ServesLemmas
+pub mod WatchLemmas
+pub mod LinkLemmas
+pub mod EndLemmas

@@ -1,8 +1,0 @@
-//! The ending moves between threads and may be shared by them, which the check of this call shows.
-
-use crate::ServeEnd;
-use sig_json::crosses_threads;
-
-fn types_cross() {
-    crosses_threads::<ServeEnd>();
-}
