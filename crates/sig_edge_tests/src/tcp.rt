@@ -1,7 +1,7 @@
 //! What the system's links do over loopback.
 
 use sig_json::Text;
-use sig_links::{Accepted, Door, Outside, Side};
+use sig_links::{Accepted, Door, Link, Outside, Side};
 use sig_outside::{Failed, Place, Sink, Source};
 use sig_tcp::{OutsideFault, SystemOutside};
 use std::net::TcpListener;
@@ -24,13 +24,14 @@ fn is_carried<O: Sink, I: Source>(from: &mut O, to: &mut I, bytes: &[u8]) -> boo
         && buf.as_slice().starts_with(bytes)
 }
 
-// Whether a question comes to the door and is answered. The link goes back with bytes in it that nobody has read.
+// Whether a question comes to the door and is answered. The link ends with bytes in it that nobody has read.
 fn is_served<D: Door, N: Source + Sink>(door: &mut D, near: &mut N) -> bool {
     let Ok(Accepted::Link { mut link, side }) = door.accept() else {
         return false;
     };
     let is_asked = is_carried(near, &mut link, b"asked");
     let is_answered = link.put(b"answered") == Ok(8) && near.put(b"not read") == Ok(8);
+    link.finish();
     door.back(link, side);
     is_asked && is_answered
 }

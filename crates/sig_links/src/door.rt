@@ -13,7 +13,7 @@ use sig_outside::Failed;
 pub trait Door {
     type L: Link + Send + Drop;
 
-    type S: Side + Send + Drop;
+    type S: Side<L: Send> + Send + Drop;
 
     ghost place: { Self → Option (List ℕ × ℕ) };
 

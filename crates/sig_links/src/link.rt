@@ -9,6 +9,13 @@ use sig_outside::{Sink, Source};
 pub trait Link: Source + Sink {
     ghost dialled: { Self → Option (List ℕ × ℕ) };
 
+    /// Ends a link that was served: nothing more will be written to it, and some of what its peer still sends is passed over, so
+    /// that the last of what was written isn't lost (RFC 9112, section 9.6). It may wait for the peer, within limits of its own.
+    fn finish(&mut self)
+        ensures told { (Self.left self.new ≡ Self.left self.old) × (Self.written self.new ≡ Self.written self.old) }
+        ensures faults { (Self.Source.faults self.new ≡ Self.Source.faults self.old) × (Self.Sink.faults self.new ≡ Self.Sink.faults self.old) }
+        ensures place { dialled self.new ≡ dialled self.old };
+
     /// A read leaves what was written, the count of the writes, and where the link was dialled.
     ghost beside_reads: { (link : Self) → Self.Source.beside link ≡ Some (record { bytes = Self.written link; faults = Self.Sink.faults link; place = dialled link }) };
 

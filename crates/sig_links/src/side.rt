@@ -12,7 +12,7 @@ use sig_outside::{Failed, Place};
 /// `sent` is told. `plan` is what a link will give. `faults` counts the dials that failed and the faults of the links that
 /// were given back (it stands at 2^64 - 1).
 pub trait Side {
-    type L: Link + Send;
+    type L: Link;
 
     ghost ahead: { Self → Option (List LinkPlan) };
 

@@ -158,6 +158,11 @@ impl Link for MemLink {
 
     ghost dialled = { λ l. l.dialled };
 
+    // It keeps all that it has.
+    fn finish(&mut self)
+        ensures { self.new ≡ self.old }
+    {}
+
     ghost beside_reads = { λ l. refl };
 
     ghost beside_writes = { λ l. refl };

@@ -87,7 +87,9 @@ struct Told {
 
 fn told_by(alloc: Global, node: &mut TxNode<MemDisk>) -> Told {
     let records = node.records();
-    let stands = node.base().owed("acme-1").is_some();
+    let stands = node
+        .copy()
+        .is_ok_and(|state| state.owed("acme-1").is_some());
     let breaks = breaks(alloc, node);
     Told {
         records,

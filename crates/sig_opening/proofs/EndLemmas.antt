@@ -5,7 +5,7 @@ use Rattle.sig_outside.specs.Causes.{Rose}
 use Rattle.sig_journal.specs.declared.fault.LoadFault.{LoadFault}
 use Rattle.sig_journal.specs.declared.fault.LoadFault.TheVariants as load
 use Rattle.sig_settings.specs.declared.fault.SettingsFault.{SettingsFault}
-use Rattle.sig_opening.specs.Ends.{BreaksBy, ByEnd, IsEndOfWatches, fails_by, of_load, of_unread}
+use Rattle.sig_opening.specs.Ends.{BreaksAfter, BreaksBy, ByEnd, IsEndOfWatches, fails_by, of_load, of_unread}
 use Rattle.sig_opening.specs.Files.{HaltsStore, IsDamaged}
 use Rattle.sig_opening.specs.Settings.{AreRefused, HaltsSettings}
 use Rattle.sig_opening.specs.declared.ending.ServeEnd.{ServeEnd}
@@ -100,8 +100,8 @@ load_ends fault end none run is h = subst (λ (e : ServeEnd). ByEnd e none run) 
 
 -- ---- after watches
 
-pub broken_where : (end : ServeEnd) (broken_at : Option ℕ) → end ≡ StoreFailed → BreaksBy (fails_by end) broken_at → is_some broken_at ≡ true
-broken_where end b is h = subst (λ (e : ServeEnd). BreaksBy (fails_by e) b) is h
+pub broken_where : (end : ServeEnd) (broken_at : Option ℕ) → end ≡ StoreFailed → BreaksAfter end broken_at → is_some broken_at ≡ true
+broken_where end b is h = subst (λ (e : ServeEnd). BreaksAfter e b) is h
 
 -- what can't be the end of watches isn't
 pub not_of_watches : (end end' : ServeEnd) → IsEndOfWatches end → (IsEndOfWatches end' → ⊥) → end ≡ end' → ⊥

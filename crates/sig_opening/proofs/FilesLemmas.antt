@@ -12,7 +12,9 @@ use Rattle.sig_store.specs.Standing.{InFlight, StandsFor}
 use Rattle.sig_store.specs.Stored.{Stored}
 use Rattle.sig_store.specs.Taking.{Taking, loaded}
 use Rattle.sig_opening.specs.Closing.{PutsBack}
-use Rattle.sig_opening.specs.Ends.{BreaksBy}
+use Rattle.sig_opening.specs.Ends.{BreaksAfter, BreaksBy, fails_by}
+use Rattle.sig_opening.specs.declared.ending.ServeEnd.{ServeEnd}
+use Rattle.sig_opening.specs.declared.ending.ServeEnd.TheVariants.{Done, SettingsFailed, Refused, StoreFailed, Damaged, NetworkFailed, Disagree, Memory}
 use Rattle.sig_opening.specs.Files.{HaltsStore, IfBoth, IsToldBy}
 use Rattle.sig_opening.specs.Stays.{TellsSame}
 
@@ -159,3 +161,27 @@ puts_back {S = S} {C = C} {D = D} taking after kind told seen may_leave reads_no
     put_so taking after means told seen may_leave steps store state false a b stands broken both now load = sym load ∙ stands.tells broken both
     put_so taking after means told seen may_leave steps store state true a b stands broken both now load =
         either taking after means seen may_leave steps store state a b (stands.leaves broken both) now load
+
+-- ---- after a run
+
+if_both : (a b : Option (List ℕ)) (holds then : List ℕ → List ℕ → Type 0) → ((x y : List ℕ) → holds x y → then x y) → IfBoth a b holds → IfBoth a b then
+if_both None b holds then f h = tt
+if_both (Some x) None holds then f h = tt
+if_both (Some x) (Some y) holds then f h = f x y h
+
+maybe_broken : {S C : Type 0} (means : List ℕ → List ℕ → Result S LoadFault) (after : S → C → S) (state : S) (a b : Option (List ℕ)) (broken_at : Option ℕ)
+    → ((fails : Bool) → BreaksBy fails broken_at → IfBoth a b (PutsBack means after fails state)) → IfBoth a b (PutsBack means after true state)
+maybe_broken means after state a b None kept = if_both a b (PutsBack means after false state) (PutsBack means after true state) (λ x y h. inl h) (kept false refl)
+maybe_broken means after state a b (Some turn) kept = kept true refl
+
+-- what the files of a node tell after a run that ends so
+pub tells_after : {S C : Type 0} (means : List ℕ → List ℕ → Result S LoadFault) (after : S → C → S) (state : S) (a b : Option (List ℕ)) (end : ServeEnd) (broken_at : Option ℕ)
+    → ((fails : Bool) → BreaksBy fails broken_at → IfBoth a b (PutsBack means after fails state)) → BreaksAfter end broken_at → IfBoth a b (PutsBack means after (fails_by end) state)
+tells_after means after state a b Done broken_at kept h = kept false h
+tells_after means after state a b SettingsFailed broken_at kept h = kept false h
+tells_after means after state a b (Refused member) broken_at kept h = kept false h
+tells_after means after state a b StoreFailed broken_at kept h = kept true h
+tells_after means after state a b (Damaged file at) broken_at kept h = kept false h
+tells_after means after state a b NetworkFailed broken_at kept h = kept false h
+tells_after means after state a b (Disagree differ) broken_at kept h = maybe_broken means after state a b broken_at kept
+tells_after means after state a b Memory broken_at kept h = kept false h

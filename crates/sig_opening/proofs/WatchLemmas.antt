@@ -1,32 +1,42 @@
 -- One watch after another, whatever a watch is.
 use Rattle.std.proofs.Common.{◌≡◌, ◌≢◌, ◌∙◌, ℕ, ◌+◌, ◌<◌, Bool, true, false, List, [], ◌∷◌, ◌++◌, length, Option, Some, None, IfSome, if◌then◌else◌, inl, inr, refl, sym, ap, subst, arith, append_assoc, append-nil, length-append}
-use Rattle.std.specs.Prelude.{IfNone, flat_map}
-use Rattle.sig_opening.specs.Watches.{AreInRow, EndShut, GoesOn, RunsTo, Standing, StopsAt}
+use Rattle.std.specs.Prelude.{All, IfNone, flat_map}
+use Rattle.std.proofs.lemmas.List.Elements.{All-append, All-cons, All-nil}
+use Rattle.sig_opening.specs.Watches.{Agree, AgreesBy, AreInRow, EndDiffers, EndShut, GoesOn, RunsTo, Standing, StopsAt, Tells}
 use Rattle.sig_opening.specs.Ends.{IsEndOfWatches}
 use Rattle.sig_opening.specs.declared.ending.ServeEnd.{ServeEnd}
-use Rattle.sig_opening.specs.declared.ending.ServeEnd.TheVariants.{Done, Memory}
+use Rattle.sig_opening.specs.declared.ending.ServeEnd.TheVariants.{Done, SettingsFailed, Refused, StoreFailed, Damaged, NetworkFailed, Disagree, Memory}
+
+-- ---- where nothing differs
+
+pub agree_none : {W : Type 0} (tells : W → Tells) → Agree tells []
+agree_none {W} tells = All-nil (λ (w : W). (tells w).differ ≡ None)
+
+pub agree_one : {W : Type 0} (tells : W → Tells) (watch : W) → (tells watch).differ ≡ None → Agree tells (watch ∷ [])
+agree_one {W} tells watch h = All-cons (λ (w : W). (tells w).differ ≡ None) watch [] h (agree_none tells)
 
 -- ---- one watch
 
 -- after a watch the run goes on
-pub goes_on : {W M : Type 0} (is : W → M → M → Type 0) (old new : M) (watch : W) → is watch old new → GoesOn is old new
-goes_on is old new watch h = record { watch = watch; each = h }
+pub goes_on : {W M : Type 0} (is : W → M → M → Type 0) (tells : W → Tells) (old new : M) (watch : W) → is watch old new → (tells watch).differ ≡ None → GoesOn is tells old new
+goes_on is tells old new watch h agrees = record { watch = watch; each = h; agrees = agrees }
 
 -- or ends with it
-pub stops_with : {W M : Type 0} (is : W → M → M → Type 0) (is_shut : W → Bool) (end : ServeEnd) (old new : M) (watch : W) → IsEndOfWatches end → end ≢ Memory → (end ≡ Done → is_shut watch ≡ true)
-    → is watch old new → StopsAt is is_shut end old new
-stops_with is is_shut end old new watch kind not shut h = record {
+pub stops_with : {W M : Type 0} (is : W → M → M → Type 0) (tells : W → Tells) (end : ServeEnd) (old new : M) (watch : W) → IsEndOfWatches end → end ≢ Memory → (end ≡ Done → (tells watch).shut ≡ true)
+    → is watch old new → AgreesBy tells end (watch ∷ []) → StopsAt is tells end old new
+stops_with is tells end old new watch kind not shut h agrees = record {
   watches = watch ∷ [];
   each = (new, h, refl);
   kind = kind;
   within = omega arith;
   done = λ done. record { before = []; last = watch; parts = refl; shut = shut done };
   memory = λ memory. absurd (not memory);
+  agrees = agrees;
 }
 
-pub stops_before : {W M : Type 0} (is : W → M → M → Type 0) (is_shut : W → Bool) (old new : M) → new ≡ old → StopsAt is is_shut Memory old new
-stops_before is is_shut old new same =
-    record { watches = []; each = same; kind = tt; within = omega arith; done = λ done. absurd cc; memory = λ memory. refl }
+pub stops_before : {W M : Type 0} (is : W → M → M → Type 0) (tells : W → Tells) (old new : M) → new ≡ old → StopsAt is tells Memory old new
+stops_before is tells old new same =
+    record { watches = []; each = same; kind = tt; within = omega arith; done = λ done. absurd cc; memory = λ memory. refl; agrees = agree_none tells }
 
 -- the end after a watch, by whether its door is shut
 pub if_none : {T : Type 0} (o : Option T) (holds : Type 0) → holds → IfNone o holds
@@ -77,37 +87,61 @@ rows_files is files (w ∷ watches) a b h = rows_files is files watches h.0 b h.
 -- ---- on the way
 
 -- so many watches ran, and the run goes on
-pub record Ran {W M : Type 0} (is : W → M → M → Type 0) (count : ℕ) (old new : M) : Type 0 where
+pub record Ran {W M : Type 0} (is : W → M → M → Type 0) (tells : W → Tells) (count : ℕ) (old new : M) : Type 0 where
   pub watches : List W
   pub each : AreInRow is watches old new
   pub counts : length watches ≡ count
+  pub agree : Agree tells watches
 
-pub ran_none : {W M : Type 0} (is : W → M → M → Type 0) (old : M) → Ran is 0 old old
-ran_none is old = record { watches = []; each = refl; counts = refl }
+pub ran_none : {W M : Type 0} (is : W → M → M → Type 0) (tells : W → Tells) (old : M) → Ran is tells 0 old old
+ran_none is tells old = record { watches = []; each = refl; counts = refl; agree = agree_none tells }
 
 -- by the rules of the node, which stay
-pub ran_more : {R W M : Type 0} (is : R → W → M → M → Type 0) (rules now : R) (count : ℕ) (a b c : M) → now ≡ rules → Ran (is rules) count a b → GoesOn (is now) b c → Ran (is rules) (count + 1) a c
-ran_more {R = R} is rules now count a b c same h k = record {
+pub ran_more : {R W M : Type 0} (is : R → W → M → M → Type 0) (tells : W → Tells) (rules now : R) (count : ℕ) (a b c : M) → now ≡ rules → Ran (is rules) tells count a b → GoesOn (is now) tells b c
+    → Ran (is rules) tells (count + 1) a c
+ran_more {R = R} {W = W} is tells rules now count a b c same h k = record {
   watches = h.watches ++ k.watch ∷ [];
   each = rows_join (is rules) h.watches (k.watch ∷ []) a b c h.each (c, subst (λ (r : R). is r k.watch b c) same k.each, refl);
   counts = omega (arith, length-append h.watches (k.watch ∷ []), h.counts);
+  agree = All-append (λ (w : W). (tells w).differ ≡ None) h.watches (k.watch ∷ []) h.agree (agree_one tells k.watch k.agrees);
 }
 
-pub ran_to_stop : {R W M : Type 0} (is : R → W → M → M → Type 0) (is_shut : W → Bool) (rules now : R) (end : ServeEnd) (count asked : ℕ) (a b c : M) → now ≡ rules → count < asked
-    → Ran (is rules) count a b → StopsAt (is now) is_shut end b c → RunsTo (is rules) is_shut end asked a c
-ran_to_stop {R = R} {W = W} is is_shut rules now end count asked a b c same more h k = record {
+-- what differs in the last of further watches differs in the last of all
+agree_after : {W : Type 0} (tells : W → Tells) (first second : List W) → Agree tells first → Agree tells second → Agree tells (first ++ second)
+agree_after {W = W} tells first second one two = All-append (λ (w : W). (tells w).differ ≡ None) first second one two
+
+agrees_after : {W : Type 0} (tells : W → Tells) (end : ServeEnd) (first second : List W) → Agree tells first → AgreesBy tells end second → AgreesBy tells end (first ++ second)
+agrees_after tells Done first second one two = agree_after tells first second one two
+agrees_after tells SettingsFailed first second one two = agree_after tells first second one two
+agrees_after tells (Refused member) first second one two = agree_after tells first second one two
+agrees_after tells StoreFailed first second one two = agree_after tells first second one two
+agrees_after tells (Damaged file at) first second one two = agree_after tells first second one two
+agrees_after tells NetworkFailed first second one two = agree_after tells first second one two
+agrees_after {W = W} tells (Disagree differ) first second one two = record {
+  before = first ++ two.before;
+  last = two.last;
+  parts = ap (λ (l : List W). first ++ l) two.parts ∙ sym (append_assoc first two.before (two.last ∷ []));
+  agree = agree_after tells first two.before one two.agree;
+  differs = two.differs;
+}
+agrees_after tells Memory first second one two = agree_after tells first second one two
+
+pub ran_to_stop : {R W M : Type 0} (is : R → W → M → M → Type 0) (tells : W → Tells) (rules now : R) (end : ServeEnd) (count asked : ℕ) (a b c : M) → now ≡ rules → count < asked
+    → Ran (is rules) tells count a b → StopsAt (is now) tells end b c → RunsTo (is rules) tells end asked a c
+ran_to_stop {R = R} {W = W} is tells rules now end count asked a b c same more h k = record {
   watches = h.watches ++ k.watches;
   each = rows_join (is rules) h.watches k.watches a b c h.each (subst (λ (r : R). AreInRow (is r) k.watches b c) same k.each);
   ends = record {
     kind = k.kind;
     within = omega (arith, more, h.counts, k.within, length-append h.watches k.watches);
-    done = λ done. inr (shut_last is_shut h.watches k.watches (k.done done));
+    done = λ done. inr (shut_last tells h.watches k.watches (k.done done));
     memory = λ memory. fewer h.watches k.watches count asked more h.counts (k.memory memory);
+    agrees = agrees_after tells end h.watches k.watches h.agree k.agrees;
   };
 }
   where
-    shut_last : {W : Type 0} (is_shut : W → Bool) (first second : List W) → EndShut is_shut second → EndShut is_shut (first ++ second)
-    shut_last {W = W} is_shut first second e = record {
+    shut_last : {W : Type 0} (tells : W → Tells) (first second : List W) → EndShut tells second → EndShut tells (first ++ second)
+    shut_last {W = W} tells first second e = record {
       before = first ++ e.before;
       last = e.last;
       parts = ap (λ (l : List W). first ++ l) e.parts ∙ sym (append_assoc first e.before (e.last ∷ []));
@@ -117,9 +151,9 @@ ran_to_stop {R = R} {W = W} is is_shut rules now end count asked a b c same more
     fewer : {W : Type 0} (first second : List W) (count asked : ℕ) → count < asked → length first ≡ count → second ≡ [] → length (first ++ second) < asked
     fewer {W = W} first second count asked more counts none = omega (arith, more, counts, length-append first second, ap (λ (l : List W). length l) none)
 
-pub ran_all : {W M : Type 0} (is : W → M → M → Type 0) (is_shut : W → Bool) (asked : ℕ) (a b : M) → Ran is asked a b → RunsTo is is_shut Done asked a b
-ran_all is is_shut asked a b h = record {
+pub ran_all : {W M : Type 0} (is : W → M → M → Type 0) (tells : W → Tells) (asked : ℕ) (a b : M) → Ran is tells asked a b → RunsTo is tells Done asked a b
+ran_all is tells asked a b h = record {
   watches = h.watches;
   each = h.each;
-  ends = record { kind = tt; within = omega (arith, h.counts); done = λ done. inl h.counts; memory = λ memory. absurd cc };
+  ends = record { kind = tt; within = omega (arith, h.counts); done = λ done. inl h.counts; memory = λ memory. absurd cc; agrees = h.agree };
 }

@@ -26,7 +26,7 @@ IsEndOfWatches (Refused member) = ⊥
 IsEndOfWatches StoreFailed = Unit {0}
 IsEndOfWatches (Damaged file at) = ⊥
 IsEndOfWatches NetworkFailed = Unit {0}
-IsEndOfWatches (Disagree differ) = ⊥
+IsEndOfWatches (Disagree differ) = Unit {0}
 IsEndOfWatches Memory = Unit {0}
 
 -- an end before the first watch, or after
@@ -40,7 +40,7 @@ ByEnd NetworkFailed none run = none ⊎ run
 ByEnd (Disagree differ) none run = run
 ByEnd Memory none run = none ⊎ run
 
--- whether a node is broken after a run that ends so: exactly where a store failed
+-- whether a node may be broken after a run that ends so: where a store failed, or where something differs
 abbrev pub fails_by : ServeEnd → Bool
 fails_by Done = false
 fails_by SettingsFailed = false
@@ -48,9 +48,15 @@ fails_by (Refused member) = false
 fails_by StoreFailed = true
 fails_by (Damaged file at) = false
 fails_by NetworkFailed = false
-fails_by (Disagree differ) = false
+fails_by (Disagree differ) = true
 fails_by Memory = false
 
 abbrev pub BreaksBy : Bool → Option ℕ → Type 0
 BreaksBy true broken_at = is_some broken_at ≡ true
 BreaksBy false broken_at = broken_at ≡ None
+
+-- a node is broken after a run that ends so exactly where a store failed; where something differs, it may be
+abbrev pub BreaksAfter : ServeEnd → Option ℕ → Type 0
+BreaksAfter (Disagree differ) broken_at = Unit {0}
+BreaksAfter StoreFailed broken_at = BreaksBy true broken_at
+BreaksAfter _ broken_at = BreaksBy false broken_at

@@ -9,7 +9,7 @@ use Rattle.sig_opening.specs.Door.{Doors, HasDoor, doors_of}
 use Rattle.sig_opening.specs.Ends.{fails_by}
 use Rattle.sig_opening.specs.Files.{IfBoth, StandsForState}
 use Rattle.sig_opening.specs.Stays.{TellsSame}
-use Rattle.sig_opening.specs.Watches.{AreInRow, EndSo, Standing, standing}
+use Rattle.sig_opening.specs.Watches.{AreInRow, EndSo, Standing, Tells, standing}
 use Rattle.sig_opening.specs.declared.ending.ServeEnd.{ServeEnd}
 
 -- what the outside tells of a store's two files, and of the doors
@@ -28,8 +28,8 @@ pub record NoRun (old new : Around) : Type 0 where
 
 -- the store was opened, and told one state; the door was opened at this place; the watches began with that state and that door,
 -- one after the other; and the store was put back with what that state comes to with them all. It is said by what two files
--- mean, what one more change does, what a watch is, whether it reports a shut door, and what watches come to
-pub record Run {S C W : Type 0} (means : List ℕ → List ℕ → Result S LoadFault) (after : S → C → S) (is : W → Standing S → Standing S → Type 0) (is_shut : W → Bool) (comes_to : S → List W → S) (place : Place) (end : ServeEnd) (asked : ℕ) (old new : Around) : Type 0 where
+-- mean, what one more change does, what a watch is, what it tells of its end, and what watches come to
+pub record Run {S C W : Type 0} (means : List ℕ → List ℕ → Result S LoadFault) (after : S → C → S) (is : W → Standing S → Standing S → Type 0) (tells : W → Tells) (comes_to : S → List W → S) (place : Place) (end : ServeEnd) (asked : ℕ) (old new : Around) : Type 0 where
   pub before : S
   pub opened : StandsForState means old.a old.b before
   pub files : Bool × Bool
@@ -38,5 +38,5 @@ pub record Run {S C W : Type 0} (means : List ℕ → List ℕ → Result S Load
   pub door : HasDoor place old.doors new.doors first last
   pub watches : List W
   pub each : AreInRow is watches (standing before files first) (standing (comes_to before watches) files last)
-  pub ends : EndSo is_shut end asked watches
+  pub ends : EndSo tells end asked watches
   pub back : IfBoth new.a new.b (PutsBack means after (fails_by end) (comes_to before watches))

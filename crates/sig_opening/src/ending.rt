@@ -4,7 +4,7 @@ ghost use Rattle.sig_opening.specs.Ends.{of_load, of_unread};
 use crate::Unread;
 use sig_journal::LoadFault;
 use sig_json::Text;
-use sig_serving::Differ;
+use sig_logs::Differ;
 
 /// How the serving of a store ended, be it a transmitter's or a receiver's.
 #[derive(PartialEq, Eq, Drop)]
@@ -23,7 +23,8 @@ pub enum ServeEnd {
     Damaged { file: u8, at: u64 },
     /// The door couldn't be opened, or it failed. The outside counted it as a fault of the network.
     NetworkFailed,
-    /// These two kept values differ. It doesn't come while links are served one after the other.
+    /// In the last watch these two values differ, which should be equal: a turn of a link's log and the node's. The node may be
+    /// broken too.
     Disagree(Differ),
     /// Out of memory. Fewer watches ran than were asked for.
     Memory,

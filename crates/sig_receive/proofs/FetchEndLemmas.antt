@@ -1,5 +1,5 @@
 -- The ends of a fetch where no settings were read, or no node was loaded.
-use Rattle.std.proofs.Common.{◌≡◌, ℕ, List, Option, Result, inl, sym, subst}
+use Rattle.std.proofs.Common.{◌≡◌, ℕ, List, Option, inl, sym, subst}
 use Rattle.sig_outside.specs.Causes.{Rose}
 use Rattle.sig_journal.specs.declared.fault.LoadFault.{LoadFault}
 use Rattle.sig_journal.specs.declared.fault.LoadFault.TheVariants as load

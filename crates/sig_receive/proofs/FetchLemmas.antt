@@ -1,9 +1,8 @@
 -- A fetch between the store that is opened and the one that is put back.
-use Rattle.std.proofs.Common.{◌≡◌, ◌≢◌, ◌∙◌, ℕ, ◌+◌, ◌<◌, Bool, true, false, List, [], ◌++◌, length, drop, Option, Some, None, Result, Ok, Err, inl, inr, refl, sym, ap, subst, arith, length-append}
-use Rattle.std.specs.Prelude.{◌⊎◌, All, IfOk, IsErrOf, IsSome, is_some, ⊤}
+use Rattle.std.proofs.Common.{◌≡◌, ◌≢◌, ◌∙◌, ℕ, Bool, true, false, List, [], ◌++◌, length, drop, Option, None, Result, Ok, Err, inl, inr, refl, sym, ap, subst, arith, length-append}
+use Rattle.std.specs.Prelude.{All, IfOk, IsSome, is_some, ⊤}
 use Rattle.std.proofs.lemmas.List.{drop_at}
 use Rattle.sig_json.specs.Answers.{result_map}
-use Rattle.sig_json.specs.declared.limits.TheConstants.{LAST_NUMBER}
 use Rattle.sig_fetch.specs.Fetching as fetching
 use Rattle.sig_fetch.specs.Rounds.{Polls, Round, turns_of}
 use Rattle.sig_fetch.specs.Turns.{AreAnswered, Halts}
@@ -11,7 +10,7 @@ use Rattle.sig_fetch.specs.declared.fault.FetchFault.{FetchFault}
 use Rattle.sig_fetch.specs.declared.fault.FetchFault.TheVariants as fault
 use Rattle.sig_fetch.specs.declared.fetched.Fetched.{Fetched}
 use Rattle.sig_links.specs.Told.{Begins, Gathers, HandsNext, LendsSide, SideEnd, SidePlan, TakesBack, side_end, stored}
-use Rattle.sig_outside.specs.Causes.{Raised, Rose}
+use Rattle.sig_outside.specs.Causes.{Rose}
 use Rattle.sig_receiver.specs.Receiver.{Received, received_of}
 use Rattle.sig_rxnode.specs.Node.{NodeView, files_told, first_file, second_file}
 use Rattle.sig_rxnode.specs.Turns.{changes_of}
@@ -19,7 +18,6 @@ use Rattle.sig_rxnode.specs.declared.rules.Peer.{Peer}
 use Rattle.sig_rxnode.specs.declared.rules.RxRules.{RxRules}
 use Rattle.sig_rxnode.specs.declared.turn.RxTurn.{RxTurn}
 use Rattle.sig_serving.specs.Side.{SideView}
-use Rattle.sig_journal.specs.Journal.{Open}
 use Rattle.sig_journal.specs.Store.{pick}
 use Rattle.sig_store.specs.Appended.{WritesOne}
 use Rattle.sig_opening.specs.Ends.{BreaksBy}

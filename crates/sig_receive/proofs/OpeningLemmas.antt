@@ -1,11 +1,10 @@
 -- A receiver's node between the files that are opened and those that are put back.
-use Rattle.std.proofs.Common.{◌≡◌, ◌∙◌, ap, ℕ, Bool, List, [], ◌∷◌, Option, Some, None, Result, Ok, Err, sym}
+use Rattle.std.proofs.Common.{◌≡◌, ℕ, Bool, List, Option, Some, None, Result, Ok, Err, sym}
 use Rattle.std.specs.Prelude.{IsTrue, ⊤}
 use Rattle.sig_entry.specs.Tokens.{decoded_token}
 use Rattle.sig_fields.specs.declared.fault.DecodeFault.{DecodeFault}
-use Rattle.sig_journal.specs.declared.kind.Kind.{Kind}
 use Rattle.sig_journal.specs.declared.kind.Kind.TheVariants.{Rx}
-use Rattle.sig_receiver.specs.Receiver.{Received, received_of}
+use Rattle.sig_receiver.specs.Receiver.{Received}
 use Rattle.sig_receiver.specs.Taking.{text_taken}
 use Rattle.sig_receiver.specs.declared.take_fault.TakeFault.{TakeFault}
 use Rattle.sig_rxnode.specs.Holding.{IsHolding}

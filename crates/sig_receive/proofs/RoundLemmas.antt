@@ -1,6 +1,6 @@
 -- What turns come to, and how a side is taken and given back.
-use Rattle.std.proofs.Common.{◌≡◌, ◌∙◌, ℕ, zero, suc, List, [], ◌∷◌, ◌++◌, Option, Some, None, inl, inr, sym, ap}
-use Rattle.sig_links.specs.Told.{Lends, LendsSide, SideEnd, SidePlan, TakesBack}
+use Rattle.std.proofs.Common.{◌≡◌, ◌∙◌, ℕ, zero, suc, List, [], ◌∷◌, Option, Some, None, inl, inr, sym, ap}
+use Rattle.sig_links.specs.Told.{LendsSide, SideEnd, SidePlan, TakesBack}
 use Rattle.sig_receiver.specs.Receiver.{Received, received_of}
 use Rattle.sig_receiver.proofs.JournalLemmas.{joins}
 use Rattle.sig_receiver.proofs.KeptLemmas.{none_more}
@@ -9,7 +9,7 @@ use Rattle.sig_rxnode.specs.declared.turn.RxTurn.{RxTurn}
 use Rattle.sig_set.specs.declared.trust.Trust.{Trust}
 use Rattle.sig_opening.proofs.DoorLemmas.{came_back}
 use Rattle.sig_opening.proofs.ReadingLemmas.{tells_on}
-use Rattle.sig_receive.specs.Sides.{Beside, ComesBack, NoFetch, Sides, beside, sides_of}
+use Rattle.sig_receive.specs.Sides.{Beside, ComesBack, NoFetch, beside, sides_of}
 
 -- what is kept after turns is what was kept before with the texts that they add
 pub turns_come_to : (trust : Trust) (turns : List RxTurn) (state : Received) → after_turns trust state turns ≡ received_of state (changes_of trust state turns)

@@ -1,5 +1,5 @@
 -- What is read of a receiver's settings is what they say.
-use Rattle.std.proofs.Common.{◌≡◌, ◌∙◌, ℕ, ◌+◌, List, Option, Some, None, Result, Ok, Err, IfSome, take, ap, sym, subst, codes, inl, inr}
+use Rattle.std.proofs.Common.{◌≡◌, ◌∙◌, ℕ, ◌+◌, List, Option, Some, None, Result, Err, IfSome, take, ap, sym, subst, codes, inl, inr}
 use Rattle.std.specs.Prelude.{◌⊎◌}
 use Rattle.serde_json.specs.Data.{Data}
 use Rattle.sig_json.specs.declared.limits.TheConstants.{SETTINGS_BYTES}
@@ -14,7 +14,7 @@ use Rattle.sig_opening.specs.declared.unread.Unread.TheVariants as unread
 use Rattle.sig_rxnode.specs.declared.rules.Peer.{Peer}
 use Rattle.sig_rxsettings.specs.declared.settings.RxSettings.{RxSettings}
 use Rattle.sig_receive.specs.Ends.{Says}
-use Rattle.sig_receive.specs.Peers.{FetchRefused, FetchSettings, SaysFetch, fetch_settings_of, needs_peer, with_peer}
+use Rattle.sig_receive.specs.Peers.{FetchRefused, SaysFetch, fetch_settings_of, needs_peer, with_peer}
 
 -- settings that are too long are refused by as many bytes as are read of them
 pub rx_cut : (all : List ℕ) → rx_settings_of (take (SETTINGS_BYTES + 1) all) ≡ rx_settings_of all

@@ -7,7 +7,7 @@ use Rattle.sig_opening.specs.Serving as serving
 use Rattle.sig_opening.specs.declared.ending.ServeEnd.{ServeEnd}
 use Rattle.sig_receive.specs.Closing.{with_text}
 use Rattle.sig_receive.specs.Ends.{Says, state_of}
-use Rattle.sig_receive.specs.Watches.{IsWatch, Watch, reports_shut, texts_of}
+use Rattle.sig_receive.specs.Watches.{IsWatch, Watch, tells_of, texts_of}
 
 -- what is kept after watches: what was kept before with the texts of them all
 abbrev pub after_watches : Received → List Watch → Received
@@ -16,7 +16,7 @@ after_watches state watches = received_of state (texts_of watches)
 -- the store was opened, and told one state; the door was opened at the settings' place; the watches began with that state and
 -- that door, one after the other, by the settings' rules; and the store was put back with that state and the texts of them all
 abbrev pub Run : RxSettings → ServeEnd → ℕ → serving.Around → serving.Around → Type 0
-Run said end asked old new = serving.Run state_of with_text (IsWatch said.rules) reports_shut after_watches said.listen end asked old new
+Run said end asked old new = serving.Run state_of with_text (IsWatch said.rules) tells_of after_watches said.listen end asked old new
 
 -- there was no run; or there was one by these settings
 abbrev pub Serves : RxSettings → ServeEnd → ℕ → serving.Around → serving.Around → Type 0

@@ -1,35 +1,37 @@
 -- The watches of a run, one after the other.
-use Rattle.std.specs.Prelude.{◌≡◌, ℕ, List, [], flat_map, Bool}
+use Rattle.std.specs.Prelude.{◌≡◌, ℕ, List, Option, MatchOption, flat_map}
 use Rattle.sig_receiver.specs.Receiver.{Received, received_of}
 use Rattle.sig_rxnode.specs.declared.rules.RxRules.{RxRules}
+use Rattle.sig_logs.specs.Logs.{Differs, HasTurns}
+use Rattle.sig_logs.specs.declared.difference.Differ.{Differ}
+use Rattle.sig_opening.specs.Watches.{Standing, Tells}
+use Rattle.sig_rxlink.specs.declared.log.RxLinkLog.{RxLinkLog}
 use Rattle.sig_rxnode.specs.declared.turn.RxTurn.{RxTurn}
-use Rattle.sig_rxnode.specs.Told.{RxTold}
 use Rattle.sig_rxnode.specs.Turns.{AreTrue, changes_of}
-use Rattle.sig_rxwatch.specs.declared.report.RxReport.{RxReport}
-use Rattle.sig_rxwatch.specs.Links.{watching}
-use Rattle.sig_rxwatch.specs.Watch.{HasTurns, Watches}
+use Rattle.sig_rxwatch.specs.Serving.{ServesOne}
 use Rattle.sig_serving.specs.Stops.{is_shut}
 use Rattle.sig_serving.specs.declared.stop.Stop.{Stop}
-use Rattle.sig_opening.specs.Watches.{Standing}
+use Rattle.sig_threads.specs.Attending.{Attends}
+use Rattle.sig_watch.specs.declared.report.Report.{Report}
 
--- a watch: what it reports, the turns of its links in order, and the token texts that these added
+-- a watch: what it reports, the node's turns in order, the token texts that these added, and what differs between the two, if anything
 pub record Watch : Type 0 where
-  pub report : RxReport
+  pub report : Report RxLinkLog
   pub turns : List RxTurn
   pub texts : List (List ℕ)
+  pub differ : Option Differ
 
--- what the node tells of its turns since the watch was opened
-abbrev pub told_since : RxRules → Standing Received → List RxTurn → RxTold
-told_since rules old turns = record { turns = turns; base = old.state; rules = rules; files = old.files }
-
--- the report has the logs of the watch's links, which were served from the door's next link on by these rules; each of their
--- turns was answered as the table says, from the state before and over a journal that ended at `first`; and the texts are
--- those that these turns add, by which the state goes on
+-- the report has the logs of the watch's links, which came to the door, were served by these rules and went back; where nothing
+-- differs, the node's turns are those of the logs, and else this is where they differ. Each of the turns was answered as the
+-- table says, from the state before and over a journal that ended at `first`; and the texts are those of these turns, by which
+-- the state goes on
 pub record IsWatch (rules : RxRules) (watch : Watch) (old new : Standing Received) : Type 0 where
-  pub turns : HasTurns watch.report.links watch.turns
   pub stop : Stop
-  pub links : Watches rules stop watch.report.links (watching (told_since rules old []) old.door) (watching (told_since rules old watch.turns) new.door)
+  pub links : Attends (ServesOne rules) stop watch.report.links old.door new.door
   pub shut : watch.report.shut ≡ is_shut stop
+  pub compares : MatchOption watch.differ
+      (HasTurns (λ (t : RxTurn). t.link) (λ (log : RxLinkLog). log.link) (λ (log : RxLinkLog). log.turns) watch.report.links watch.turns)
+      (λ differ. Differs (λ (t : RxTurn). t.link) (λ (log : RxLinkLog). log.link) (λ (log : RxLinkLog). log.turns) watch.report.links watch.turns differ)
   pub first : ℕ
   pub answers : AreTrue rules.trust old.state first watch.turns
   pub texts : watch.texts ≡ changes_of rules.trust old.state watch.turns
@@ -40,6 +42,6 @@ pub record IsWatch (rules : RxRules) (watch : Watch) (old new : Standing Receive
 abbrev pub texts_of : List Watch → List (List ℕ)
 texts_of watches = flat_map (λ (watch : Watch). watch.texts) watches
 
--- whether it reports that the door is shut
-abbrev pub reports_shut : Watch → Bool
-reports_shut watch = watch.report.shut
+-- what it tells of its end
+abbrev pub tells_of : Watch → Tells
+tells_of watch = record { shut = watch.report.shut; differ = watch.differ }

@@ -29,5 +29,5 @@ pub use ending::FetchEnd;
 pub use fetching::fetch;
 pub use serving::receive;
 pub use sig_fetch::Fetched;
+pub use sig_logs::Differ;
 pub use sig_opening::ServeEnd;
-pub use sig_serving::Differ;

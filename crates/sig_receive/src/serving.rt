@@ -3,7 +3,7 @@
 ghost use Rattle.std.specs.Prelude.{◌≡◌, ◌≢◌, ℕ, List, None};
 ghost use Rattle.sig_init.specs.Files.{KeepsBut, StaysTold, file_a, file_b};
 ghost use Rattle.sig_opening.specs.Door.{doors_of};
-ghost use Rattle.sig_opening.specs.Ends.{BreaksBy, fails_by};
+ghost use Rattle.sig_opening.specs.Ends.{BreaksAfter};
 ghost use Rattle.sig_opening.specs.Serving.{around};
 ghost use Rattle.sig_opening.specs.Stays.{KeepsOtherSettings};
 ghost use Rattle.sig_outside.specs.Causes.{Rose};
@@ -22,6 +22,7 @@ use sig_rxnode::RxNode;
 use sig_rxsettings::RxSettings;
 use std::alloc::Global;
 use std::sync::Wait;
+use std::thread::Threads;
 
 /// Serves a receiver: reads the settings of this name, loads the store of this name, opens the door at the settings'
 /// listening place, and runs so many watches, or fewer where a watch reports that the door is shut, where the door or the
@@ -29,7 +30,7 @@ use std::sync::Wait;
 ///
 /// The settings are read first, then the store is opened, then the door; what was opened is given back before the end, the
 /// settings as soon as they are read.
-pub fn receive<R: Wait, X: Outside>(
+pub fn receive<R: Threads + Wait + Sync, X: Outside>(
     alloc: Global,
     rt: &R,
     settings: &str,
@@ -66,7 +67,7 @@ pub fn receive<R: Wait, X: Outside>(
 }
 
 // Serves the store of these files by these settings.
-fn serve_store<R: Wait, X: Outside>(
+fn serve_store<R: Threads + Wait + Sync, X: Outside>(
     alloc: Global,
     rt: &R,
     said: RxSettings,
@@ -100,7 +101,7 @@ fn serve_store<R: Wait, X: Outside>(
 }
 
 // Serves a node at a door of this place, which is given back.
-fn serve_at<R: Wait, X: Outside>(
+fn serve_at<R: Threads + Wait + Sync, X: Outside>(
     alloc: Global,
     rt: &R,
     node: RxNode<X::D>,
@@ -110,7 +111,7 @@ fn serve_at<R: Wait, X: Outside>(
 ) -> Served<X::D>
     requires { node.kept.store.broken_at ≡ None }
     ensures serves { ServesAt X.D.told place.now result.end watches (doors_of (X.doors outside.old) (X.doors_back outside.old)) (doors_of (X.doors outside.new) (X.doors_back outside.new)) node result.node }
-    ensures breaks { BreaksBy (fails_by result.end) result.node.kept.store.broken_at }
+    ensures breaks { BreaksAfter result.end result.node.kept.store.broken_at }
     ensures network { result.end ≡ ServeEnd.NetworkFailed → Rose (X.network_faults outside.old) (X.network_faults outside.new) }
     ensures stores { (X.held outside.new ≡ X.held outside.old) × (X.lent outside.new ≡ X.lent outside.old) × (X.store_faults outside.new ≡ X.store_faults outside.old) }
     ensures settings { X.settings_of outside.new ≡ X.settings_of outside.old }

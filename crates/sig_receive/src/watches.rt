@@ -2,18 +2,19 @@
 
 ghost use Rattle.std.specs.Prelude.{◌≡◌, ◌<◌, IfNone, IfSome, None, Some, if◌then◌else◌};
 ghost use Rattle.sig_serving.specs.Door.{door_view};
-ghost use Rattle.sig_opening.specs.Ends.{BreaksBy, fails_by};
+ghost use Rattle.sig_opening.specs.Ends.{BreaksAfter};
 ghost use Rattle.sig_opening.specs.Watches.{GoesOn, RunsTo, StopsAt};
 ghost use Rattle.sig_receive.specs.Door.{with_door};
-ghost use Rattle.sig_receive.specs.Watches.{IsWatch, reports_shut};
+ghost use Rattle.sig_receive.specs.Watches.{IsWatch, tells_of};
 
 use crate::ServeEnd;
 use sig_links::Door;
 use sig_outside::Disk;
 use sig_rxnode::RxNode;
-use sig_rxwatch::{RxWatchEnd, serve_watch};
+use sig_rxwatch::{WatchEnd, serve_watch};
 use std::alloc::Global;
 use std::sync::Wait;
+use std::thread::Threads;
 
 /// A node after its watches, and how they ended.
 pub struct Served<D: Disk> {
@@ -27,8 +28,9 @@ struct Watched<D: Disk> {
     end: Option<ServeEnd>,
 }
 
-/// Runs so many watches, or fewer: it goes on after none that reports a shut door, nor after one that fails.
-pub fn run_watches<R: Wait, D: Disk, A: Door>(
+/// Runs so many watches, or fewer: it goes on after none that reports a shut door, nor after one that fails or in which something
+/// differs.
+pub fn run_watches<R: Threads + Wait + Sync, D: Disk + Send, A: Door>(
     alloc: Global,
     rt: &R,
     node: RxNode<D>,
@@ -36,10 +38,10 @@ pub fn run_watches<R: Wait, D: Disk, A: Door>(
     door: &mut A,
 ) -> Served<D>
     requires { node.kept.store.broken_at ≡ None }
-    ensures runs { RunsTo (IsWatch node.rules) reports_shut result.end watches
+    ensures runs { RunsTo (IsWatch node.rules) tells_of result.end watches
         (with_door D.told node (door_view A.coming A.served A.out A.place A.faults door.old))
         (with_door D.told result.node (door_view A.coming A.served A.out A.place A.faults door.new)) }
-    ensures breaks { BreaksBy (fails_by result.end) result.node.kept.store.broken_at }
+    ensures breaks { BreaksAfter result.end result.node.kept.store.broken_at }
     ensures network { result.end ≡ ServeEnd.NetworkFailed → 0 < A.faults door.new }
 {
     let mut node = node;
@@ -57,7 +59,7 @@ pub fn run_watches<R: Wait, D: Disk, A: Door>(
 }
 
 // Runs one watch.
-fn run_watch<R: Wait, D: Disk, A: Door>(
+fn run_watch<R: Threads + Wait + Sync, D: Disk + Send, A: Door>(
     alloc: Global,
     rt: &R,
     node: RxNode<D>,
@@ -65,30 +67,30 @@ fn run_watch<R: Wait, D: Disk, A: Door>(
 ) -> Watched<D>
     requires { node.kept.store.broken_at ≡ None }
     ensures rules { result.node.rules ≡ node.rules }
-    ensures goes_on { IfNone result.end (GoesOn (IsWatch node.rules)
+    ensures goes_on { IfNone result.end (GoesOn (IsWatch node.rules) tells_of
         (with_door D.told node (door_view A.coming A.served A.out A.place A.faults door.old))
         (with_door D.told result.node (door_view A.coming A.served A.out A.place A.faults door.new))) }
-    ensures stops { IfSome result.end (λ end. StopsAt (IsWatch node.rules) reports_shut end
+    ensures stops { IfSome result.end (λ end. StopsAt (IsWatch node.rules) tells_of end
         (with_door D.told node (door_view A.coming A.served A.out A.place A.faults door.old))
         (with_door D.told result.node (door_view A.coming A.served A.out A.place A.faults door.new))) }
     ensures whole { IfNone result.end (result.node.kept.store.broken_at ≡ None) }
-    ensures breaks { IfSome result.end (λ end. BreaksBy (fails_by end) result.node.kept.store.broken_at) }
+    ensures breaks { IfSome result.end (λ end. BreaksAfter end result.node.kept.store.broken_at) }
     ensures network { IfSome result.end (λ end. end ≡ ServeEnd.NetworkFailed → 0 < A.faults door.new) }
 {
     match serve_watch(alloc, rt, node, door) {
-        RxWatchEnd::Done { node, report } => Watched {
+        WatchEnd::Done { node, report } => Watched {
             node,
             end: end_after(report.shut),
         },
-        RxWatchEnd::DoorFault { node, report: _ } => Watched {
+        WatchEnd::DoorFault { node, report: _ } => Watched {
             node,
             end: Some(ServeEnd::NetworkFailed),
         },
-        RxWatchEnd::Broken { node, report: _ } => Watched {
+        WatchEnd::Broken { node, report: _ } => Watched {
             node,
             end: Some(ServeEnd::StoreFailed),
         },
-        RxWatchEnd::Disagree {
+        WatchEnd::Disagree {
             node,
             differ,
             report: _,
@@ -96,7 +98,7 @@ fn run_watch<R: Wait, D: Disk, A: Door>(
             node,
             end: Some(ServeEnd::Disagree(differ)),
         },
-        RxWatchEnd::Memory { node } => Watched {
+        WatchEnd::Memory { node } => Watched {
             node,
             end: Some(ServeEnd::Memory),
         },

@@ -15,7 +15,7 @@ use Rattle.sig_store.specs.declared.fault.NodeFault.TheVariants.{Full}
 use Rattle.sig_rxnode.specs.declared.answer.RxAnswer.{RxAnswer}
 use Rattle.sig_rxnode.specs.declared.call.RxCall.{RxCall}
 use Rattle.sig_rxnode.specs.declared.call.RxCall.TheVariants as call
-use Rattle.sig_rxnode.specs.Answers.{FitsPage, answer_of, change_of, heard_answer}
+use Rattle.sig_rxnode.specs.Answers.{FitsPage, IsAnswerTo, answer_of, change_of, heard_answer}
 use Rattle.sig_rxnode.specs.Turns.{end_after, where_room}
 
 one_heard : (heard : Heard) (text : List ℕ) → (journal_by heard [] text ≡ []) ⊎ (journal_by heard [] text ≡ text ∷ [])
@@ -69,3 +69,9 @@ fits_page trust state (call.Rows from) =
 pub answer_fits : (trust : Trust) (state : Received) (c : RxCall) (result : Result RxAnswer NodeFault) → IfOk result (λ told. told ≡ answer_of trust state c) → IfOk result FitsPage
 answer_fits trust state c (Ok told) is = subst FitsPage (sym is) (fits_page trust state c)
 answer_fits trust state c (Err fault) is = tt
+
+-- and is what the table gives to the call
+pub answer_row : (trust : Trust) (state : Received) (c : RxCall) (result : Result RxAnswer NodeFault) → IfOk result (λ told. told ≡ answer_of trust state c)
+    → IfOk result (λ (told : RxAnswer). IsAnswerTo c told)
+answer_row trust state c (Ok told) is = (trust, state, is)
+answer_row trust state c (Err fault) is = tt

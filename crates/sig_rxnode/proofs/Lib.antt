@@ -11,3 +11,4 @@ pub mod AddsOne
 pub mod Broke
 pub mod TurnLemmas
 pub mod HistoryLemmas
+pub mod Crossing

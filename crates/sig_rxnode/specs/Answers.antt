@@ -1,5 +1,5 @@
 -- What the receiver answers to a call over what is kept, and which token text it journals.
-use Rattle.std.specs.Prelude.{ℕ, ◌≤◌, List, [], Option, take, drop, length}
+use Rattle.std.specs.Prelude.{◌≡◌, ℕ, ◌≤◌, List, [], Option, take, drop, length}
 use Rattle.sig_json.specs.declared.limits.TheConstants.{ROWS_PER_PAGE}
 use Rattle.sig_sessions.specs.Verdicts.{verdict_of}
 use Rattle.sig_set.specs.declared.trust.Trust.{Trust}
@@ -23,6 +23,10 @@ abbrev pub answer_of : Trust → Received → RxCall → RxAnswer
 answer_of trust state (call.Token principal named bytes) = heard_answer (heard_at trust principal named state bytes)
 answer_of trust state (call.Verdict subject) = answer.Verdict (verdict_of state.rows subject)
 answer_of trust state (call.Rows from) = answer.Rows (take ROWS_PER_PAGE (drop from state.rows))
+
+-- an answer that the table gives to this call, by some settings and over something that is kept
+abbrev pub IsAnswerTo : RxCall → RxAnswer → Type 0
+IsAnswerTo call answer = (trust : Trust) × (state : Received) × (answer ≡ answer_of trust state call)
 
 -- a page has at most so many rows
 abbrev pub FitsPage : RxAnswer → Type 0

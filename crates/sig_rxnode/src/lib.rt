@@ -25,6 +25,7 @@ mod state;
 mod taker;
 mod threads;
 mod turn;
+mod watched;
 
 pub use answer::RxAnswer;
 pub use call::RxCall;

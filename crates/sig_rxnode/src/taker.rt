@@ -1,5 +1,5 @@
 ghost use Rattle.std.specs.Prelude.{◌≡◌, IfOk, Option, Some};
-ghost use Rattle.sig_rxnode.specs.Answers.{FitsPage};
+ghost use Rattle.sig_rxnode.specs.Answers.{FitsPage, IsAnswerTo};
 ghost use Rattle.sig_rxnode.specs.Node.{base_of, files_told};
 ghost use Rattle.sig_rxnode.specs.Told.{RxTold, TakesTurn};
 
@@ -20,7 +20,10 @@ pub trait RxTaker {
     /// is told stays. A page has at most 256 rows, told or not.
     fn turn<R: Wait>(&mut self, rt: &R, link: u32, call: &RxCall) -> Result<RxAnswer, RxFault>
         ensures kept { TakesTurn (told self.old) (told self.new) link call.now result }
-        ensures page { IfOk result FitsPage };
+        ensures page { IfOk result FitsPage }
+
+        // What it answers is what the table gives to the call over something that is kept, told or not.
+        ensures row { IfOk result (λ answer. IsAnswerTo call.now answer) };
 }
 
 impl<D: Disk> RxTaker for RxNode<D> {

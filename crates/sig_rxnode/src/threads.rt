@@ -1,7 +1,8 @@
-//! The terms of a node move between threads and may be shared by them, which the check of these calls shows.
+//! A node moves between threads where its disks do, and its terms may be shared by them, which the check of these calls shows.
 
-use crate::{Peer, Principal, RxAnswer, RxCall, RxRules, RxState, RxTurn};
+use crate::{Peer, Principal, RxAnswer, RxCall, RxNode, RxRules, RxState, RxTurn};
 use sig_json::crosses_threads;
+use sig_outside::Disk;
 
 fn types_cross() {
     crosses_threads::<RxCall>();
@@ -11,4 +12,8 @@ fn types_cross() {
     crosses_threads::<RxRules>();
     crosses_threads::<Principal>();
     crosses_threads::<Peer>();
+}
+
+fn nodes_cross<D: Disk + Send + Sync>() {
+    crosses_threads::<RxNode<D>>();
 }

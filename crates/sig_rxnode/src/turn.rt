@@ -2,6 +2,7 @@ ghost use Rattle.std.specs.Prelude.{◌≡◌, ◌↔◌, IfOk, IsTrue};
 
 use crate::{RxAnswer, RxCall, RxFault};
 use sig_json::{Copied, Memory, Same};
+use sig_logs::LinkTurn;
 use std::alloc::Global;
 
 /// A call as a node took it, and its answer.
@@ -68,5 +69,13 @@ fn same_result(one: &Result<RxAnswer, RxFault>, other: &Result<RxAnswer, RxFault
             Ok(_) => false,
             Err(theirs) => *fault == *theirs,
         },
+    }
+}
+
+impl LinkTurn for RxTurn {
+    ghost link_of = { λ t. t.link };
+
+    fn link(&self) -> u32 {
+        self.link
     }
 }

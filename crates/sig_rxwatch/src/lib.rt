@@ -1,28 +1,32 @@
-//! A watch of a receiver's server: the links that a door gives, one after the other, over one node (RFC 8935, section 2;
-//! RFC 9112, section 9.3).
+//! A watch of a receiver's server: the links that a door gives, each served in a thread of its own, over one node under a
+//! lock (RFC 8935, section 2; RFC 9112, section 9.3).
 //!
-//! It stands on `sig_links` for doors, on `sig_serving` for what both servers' watches have in common, on `sig_rxlink` for how
-//! one link is served, and on `sig_rxnode` for the node, which is what answers the calls of every link.
+//! It stands on `sig_threads` for how the links of a door are served side by side, on `sig_rxlink` for how one link is served,
+//! on `sig_rxnode` for the node, which is what answers the calls of every link, and on `sig_watch` for how a watch ends.
 //!
 //! ```text
-//!     node -> rules -> door: link 1 -> its turns and its log -> door
-//!                      door: link 2 -> ..
-//!                                                      shut, a fault, or as many as a watch serves -> report
+//!     node -> rules, room -> lock <-- link 1 in a thread <-- door
+//!                                 <-- link 2 in a thread <-- door
+//!                                 ..                             shut, a fault, or as many as a watch serves
+//!          <- the node from under the lock, its turns beside the logs -> how the watch ended, with the report
 //! ```
 //!
-//! Promised: the node that is handed back has as its base the state of the node that was handed in; the report has a log of
-//! each link, numbered from 1 in order of acceptance; the node's turns are the turns of the logs, in order, and they are one
-//! history from that base; each link goes back to the door once it was served, with its side untouched; and each end comes
-//! with its cause. Opening a watch copies nothing that grows with what the node keeps, and room for the report is taken before
-//! the first link is accepted. Left out: how many links come, and links that are served at the same time.
+//! Promised: the node that is handed back is one history from the state of the node that was handed in, under the same rules;
+//! the links were numbered from 1 in order of acceptance, each was served under its number, and each went back to the door with
+//! its side untouched; each log has the node's turns of its link, in order, and each turn is of a link with a log, or else the watch ends
+//! with what differs; and each end comes with its cause. Opening a watch copies nothing that grows with what the node keeps, and
+//! room for all links is taken before the first is accepted.
+//!
+//! Left out: that links are served at the same time, and in which order they ask the node.
 #![tactic(auto)]
 
-mod report;
-mod serving;
+mod host;
+mod shared;
 mod threads;
 mod watching;
 
-pub use report::{RxReport, RxWatchEnd};
+pub use sig_logs::Differ;
 pub use sig_rxlink::RxLinkLog;
-pub use sig_serving::{Differ, LinkEnd};
+pub use sig_serving::LinkEnd;
+pub use sig_watch::{Report, WatchEnd};
 pub use watching::serve_watch;

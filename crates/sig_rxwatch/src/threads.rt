@@ -1,8 +1,8 @@
 //! Reports move between threads, which the check of this call shows.
 
-use crate::RxReport;
+use crate::{Report, RxLinkLog};
 use sig_json::crosses_threads;
 
 fn types_cross() {
-    crosses_threads::<RxReport>();
+    crosses_threads::<Report<RxLinkLog>>();
 }

@@ -1,130 +1,110 @@
 //! A watch from its opening to its end.
 
-ghost use Rattle.std.specs.Prelude.{◌≡◌, ◌≤◌, [], None, IfOk, OnErr, OnOk, vec_capacity};
-ghost use Rattle.sig_json.specs.declared.limits.TheConstants.{LINKS_PER_WATCH};
+ghost use Rattle.std.specs.Prelude.{◌≡◌, Some, None, IfOk};
 ghost use Rattle.sig_serving.specs.Door.{door_view};
 ghost use Rattle.sig_rxnode.specs.Holding.{IsHolding};
-ghost use Rattle.sig_rxnode.specs.Node.{IsHistory, base_of, begun};
-ghost use Rattle.sig_rxwatch.specs.Ends.{Agrees, EndsBy, HandsBack, HasReport, IfReport, IsOneHistory, IsReported, WhyEnded};
-ghost use Rattle.sig_rxwatch.specs.Links.{told_in, watching};
-ghost use Rattle.sig_rxwatch.specs.Watch.{HasTurns};
+ghost use Rattle.sig_rxnode.specs.Node.{IsHistory};
+ghost use Rattle.sig_rxwatch.specs.Ends.{Follows, IsOneHistory, WhyEnded};
+ghost use Rattle.sig_rxwatch.specs.Opening.{told_before};
+ghost use Rattle.sig_watch.specs.Ends.{HandsBack, IfReport, IsReported};
 
-use crate::serving::serve_links;
-use crate::{RxReport, RxWatchEnd};
-use sig_json::limits::LINKS_PER_WATCH;
-use sig_json::{Items, Memory};
+use crate::host::RxHost;
+use crate::shared::{Opened, Shared};
+use crate::{RxLinkLog, WatchEnd};
+use sig_json::Memory;
 use sig_links::Door;
 use sig_outside::Disk;
-use sig_rxlink::RxLinkLog;
 use sig_rxnode::{RxNode, RxRules};
-use sig_serving::Stop;
+use sig_threads::{Room, attend};
+use sig_watch::end_of;
 use std::alloc::Global;
-use std::sync::Wait;
+use std::marker::Brand;
+use std::sync::{Mutex, Wait};
+use std::thread::Threads;
 
-// What a watch needs before it accepts a link: the rules that it lends to links, and room for their logs.
-#[derive(Drop)]
-struct Opening {
-    rules: RxRules,
-    links: Vec<RxLinkLog>,
-}
-
-/// Serves the links that a door gives, `LINKS_PER_WATCH` at most, one after the other in the caller's thread, over a node that
-/// isn't broken. Each is served by `sig_rxlink::serve_link` with the node as its taker, under a number from 1 on in order of
-/// acceptance, and goes back to the door with its side before the next is accepted. After the door is shut or has failed it
-/// accepts none. It may wait for the door and the links.
+/// Serves the links that a door gives, `LINKS_PER_WATCH` at most, each in a thread of its own from when it is accepted, over a
+/// node that isn't broken. Each is served by `sig_rxlink::serve_link` under a number from 1 on in order of acceptance, with the
+/// node under its lock as its taker. After the door is shut or has failed no further link is accepted; once all have ended,
+/// each goes back to the door with its side. It may wait for the door, the links, the lock and the threads.
 ///
-/// It ends with `Done` where as many links were served as a watch may have, or the door is shut; with `DoorFault` where the
-/// door's count of faults rose; with `Broken` exactly where the node is broken; and with `Memory` before the first link is
+/// It ends with `Disagree` where the turns of the logs and those of the node aren't the same, and tells the first that isn't;
+/// else with `Broken` exactly where the node is broken; with `Done` where as many links were served as a watch may have, or
+/// the door is shut; with `DoorFault` where the door's count of faults rose; and with `Memory` before the first link is
 /// accepted, where the node is as it was.
-pub fn serve_watch<R: Wait, D: Disk, A: Door>(
+pub fn serve_watch<R: Threads + Wait + Sync, D: Disk + Send, A: Door>(
     alloc: Global,
     rt: &R,
     node: RxNode<D>,
     door: &mut A,
-) -> RxWatchEnd<D>
+) -> WatchEnd<RxNode<D>, RxLinkLog>
     requires { node.kept.store.broken_at ≡ None }
 
-    // The node that is handed back has as its base the state of the node that was handed in, and its rules.
-    ensures report { IfReport result (λ now report. HasReport node now) }
+    // The base of the node that is handed back is the state of the node that was handed in; its rules stay.
+    ensures follows { IfReport result (λ now report. Follows D.told node now) }
 
     // That node is one history from there, and its store tells its state.
     ensures history { IfReport result (λ now report. IsOneHistory D.told D.seen D.may_leave now) }
 
-    // The links were served one after the other from the door's first on, and went back to it.
+    // The links were served side by side, and went back to the door; and how the watch ends is by why it accepts no further
+    // one, by the comparison of turns and by the node.
     ensures links { IfReport result (λ now report. WhyEnded node.rules report result
-        (watching (told_in D.told (begun node)) (door_view A.coming A.served A.out A.place A.faults door.old))
-        (watching (told_in D.told now) (door_view A.coming A.served A.out A.place A.faults door.new))) }
-
-    // The node's turns are those of the logs.
-    ensures turns { IfReport result (λ now report. HasTurns report.links now.turns) }
+        (door_view A.coming A.served A.out A.place A.faults door.old) (door_view A.coming A.served A.out A.place A.faults door.new)) }
 
     ensures memory { HandsBack node door.old door.new result }
-    ensures agrees { Agrees result }
 {
-    let mut node = node;
-    match open(alloc, &mut node) {
-        Ok(opening) => watch(alloc, rt, node, door, opening),
-        Err(Memory) => RxWatchEnd::Memory { node },
+    match open::<D, A>(alloc, &node) {
+        Ok((rules, room)) => {
+            let mut node = node;
+            // That the base is the state rests on what holds of every node.
+            let _ = node.broken_at();
+            node.open_watch();
+            watch::<Brand, R, D, A>(alloc, rt, node, rules, door, room)
+        }
+        Err(Memory) => WatchEnd::Memory { node },
     }
 }
 
-// Takes the rules and the room for the logs, and then the node keeps the turns of the watch alone, from its state on.
-fn open<D: Disk>(alloc: Global, node: &mut RxNode<D>) -> Result<Opening, Memory>
-    requires { node.old.kept.store.broken_at ≡ None }
-    ensures rules { IfOk result (λ opening. opening.rules ≡ node.old.rules) }
-    ensures empty { IfOk result (λ opening. opening.links.items ≡ []) }
-    ensures room { IfOk result (λ opening. LINKS_PER_WATCH ≤ vec_capacity opening.links) }
-    ensures begins { OnOk result (node.new ≡ begun node.old) }
-    ensures base { OnOk result (base_of node.new ≡ node.old.kept.state) }
-    ensures memory { OnErr result (node.new ≡ node.old) }
+// The rules that are lent to links, and room for all links and their logs.
+fn open<D: Disk, A: Door>(
+    alloc: Global,
+    node: &RxNode<D>,
+) -> Result<(RxRules, Room<A::L, A::S, RxLinkLog>), Memory>
+    ensures { IfOk result (λ opening. opening.0 ≡ node.now.rules) }
 {
     let rules = node.rules().copy(alloc)?;
-    let links = Vec::with_capacity(alloc, LINKS_PER_WATCH)?;
-    // That the base is the state rests on what holds of every node.
-    let _ = node.broken_at();
-    node.open_watch();
-    Ok(Opening { rules, links })
+    let room = Room::new(alloc)?;
+    Ok((rules, room))
 }
 
 // Serves the links of a watch that was opened.
-fn watch<R: Wait, D: Disk, A: Door>(
+fn watch<O: Opened + Send, R: Threads + Wait + Sync, D: Disk + Send, A: Door>(
     alloc: Global,
     rt: &R,
     node: RxNode<D>,
+    rules: RxRules,
     door: &mut A,
-    opening: Opening,
-) -> RxWatchEnd<D>
-    requires empty { opening.links.items ≡ [] }
-    requires room { LINKS_PER_WATCH ≤ vec_capacity opening.links }
-    ensures history { IfReport result (λ now report. IsOneHistory D.told D.seen D.may_leave now) }
-    ensures links { IfReport result (λ now report. WhyEnded opening.rules report result
-        (watching (told_in D.told node) (door_view A.coming A.served A.out A.place A.faults door.old))
-        (watching (told_in D.told now) (door_view A.coming A.served A.out A.place A.faults door.new))) }
-    ensures ends { IsReported result }
+    room: Room<A::L, A::S, RxLinkLog>,
+) -> WatchEnd<RxNode<D>, RxLinkLog>
+    requires opened { Some (told_before D.told node) ≡ O.told }
+    ensures stays { IfReport result (λ now report. told_before D.told now ≡ told_before D.told node) }
+    ensures kept { IfReport result (λ now report. IsHolding D.told D.seen D.may_leave now.kept × IsHistory now) }
+    ensures links { IfReport result (λ now report. WhyEnded rules report result
+        (door_view A.coming A.served A.out A.place A.faults door.old) (door_view A.coming A.served A.out A.place A.faults door.new)) }
+    ensures reported { IsReported result }
 {
-    let mut node = node;
-    let Opening { rules, links } = opening;
-    let mut links = links;
-    let stop = serve_links(alloc, rt, &mut node, &rules, door, &mut links);
-    let report = RxReport {
-        links: Items::of(links),
-        shut: stop.is_shut(),
+    let host = RxHost {
+        alloc,
+        rules,
+        node: Mutex::new(Shared::<D, O>::new(node)),
     };
-    end_of(node, report, stop)
-}
-
-// The end of a watch that stopped so.
-fn end_of<D: Disk>(node: RxNode<D>, report: RxReport, stop: Stop) -> RxWatchEnd<D>
-    ensures gives { IfReport result (λ now told. (now ≡ node) × (told ≡ report)) }
-    ensures ends { EndsBy stop result }
-    ensures holds { IsHolding D.told D.seen D.may_leave node.kept }
-    ensures turns { IsHistory node }
-{
-    if node.broken_at().is_some() {
-        return RxWatchEnd::Broken { node, report };
-    }
-    match stop {
-        Stop::Spent | Stop::Shut => RxWatchEnd::Done { node, report },
-        Stop::Failed => RxWatchEnd::DoorFault { node, report },
-    }
+    let attended = attend(rt, &host, door, room);
+    let RxHost {
+        alloc: _,
+        rules: _,
+        node,
+    } = host;
+    let node = node.into_inner().into_node();
+    // What holds of every node holds of this one.
+    let _ = node.broken_at();
+    end_of(node, attended)
 }

@@ -7,7 +7,7 @@ use Rattle.sig_opening.specs.Serving as serving
 use Rattle.sig_opening.specs.declared.ending.ServeEnd.{ServeEnd}
 use Rattle.sig_serve.specs.Closing.{with_fact}
 use Rattle.sig_serve.specs.Ends.{Says, state_of}
-use Rattle.sig_serve.specs.Watches.{IsWatch, Watch, facts_of, reports_shut}
+use Rattle.sig_serve.specs.Watches.{IsWatch, Watch, facts_of, tells_of}
 
 -- the state after watches: that before with the facts of them all
 abbrev pub after_watches : Sum → List Watch → Sum
@@ -16,7 +16,7 @@ after_watches state watches = sum_of state (facts_of watches)
 -- the store was opened, and told one state; the door was opened at the settings' place; the watches began with that state and
 -- that door, one after the other, by the settings' rules; and the store was put back with that state and the facts of them all
 abbrev pub Run : TxSettings → ServeEnd → ℕ → serving.Around → serving.Around → Type 0
-Run said end asked old new = serving.Run state_of with_fact (IsWatch said.rules) reports_shut after_watches said.listen end asked old new
+Run said end asked old new = serving.Run state_of with_fact (IsWatch said.rules) tells_of after_watches said.listen end asked old new
 
 -- there was no run; or there was one by these settings
 abbrev pub Serves : TxSettings → ServeEnd → ℕ → serving.Around → serving.Around → Type 0

@@ -20,5 +20,5 @@ mod settings;
 mod watches;
 
 pub use serving::serve;
+pub use sig_logs::Differ;
 pub use sig_opening::ServeEnd;
-pub use sig_serving::Differ;

@@ -7,8 +7,8 @@ use Rattle.sig_outside.specs.Causes.{AppendsPrefix}
 use Rattle.sig_outside.proofs.CauseLemmas.{appends_then_prefix, prefix_longer}
 use Rattle.sig_command.specs.Moment.{OutputState}
 use Rattle.sig_init.specs.declared.ending.InitEnd.{InitEnd}
-use Rattle.sig_serving.specs.declared.differ.Differ.{Differ}
-use Rattle.sig_serving.specs.declared.differ.Differ.TheVariants.{Turn}
+use Rattle.sig_logs.specs.declared.difference.Differ.{Differ}
+use Rattle.sig_logs.specs.declared.difference.Differ.TheVariants.{Turn}
 use Rattle.sig_opening.specs.declared.ending.ServeEnd.{ServeEnd}
 use Rattle.sig_opening.specs.declared.ending.ServeEnd.TheVariants.{Disagree}
 use Rattle.sig_receive.specs.declared.ending.FetchEnd.{FetchEnd}
@@ -74,3 +74,7 @@ line_of_b file at other = let no : (file == 0) ≡ false = grind (arith, other) 
 pub line_of_turn : (link_text place_text : List ℕ) (link place : ℕ) → link_text ≡ decimal link → place_text ≡ codes " place " ++ decimal place ++ codes "\n"
     → codes "signals: disagree link " ++ link_text ++ place_text ≡ last_line (Disagree (Turn link place))
 line_of_turn link_text place_text link place a b = rw (a, b) refl
+
+-- a difference is a turn of a link at a place
+pub at_turn : {P : Type 0} (d : Differ) → ((link place : ℕ) → d ≡ Turn link place → P) → P
+at_turn (Turn link place) holds = holds link place refl

@@ -12,7 +12,6 @@ use Rattle.sig_journal.specs.declared.fault.LoadFault.{LoadFault}
 use Rattle.sig_settings.specs.declared.fault.SettingsFault.{SettingsFault}
 use Rattle.sig_txsettings.specs.Settings.{tx_settings_of}
 use Rattle.sig_rxsettings.specs.Settings.{rx_settings_of}
-use Rattle.sig_serving.specs.declared.differ.Differ.{Differ}
 use Rattle.sig_opening.specs.Files.{IsDamaged}
 use Rattle.sig_opening.specs.Serving.{Around}
 use Rattle.sig_opening.specs.Settings.{AreRefused}
@@ -71,58 +70,39 @@ stands_damaged reads means ask now file at ready h =
     let both : IsDamaged means (Some ready.a) (Some ready.b) file at = subst (λ (o : Option (List ℕ)). IsDamaged means (Some ready.a) o file at) ready.b_told first in
     ok_err ready.state _ (means ready.a ready.b) ready.stands both
 
--- a serving that meets no fault ends with 0 or 9, where values that differ are no end of it
+-- a serving that meets no fault ends with 0, 8 or 9
 ended : {T S : Type 0} (reads : List ℕ → Result T SettingsFault) (means : List ℕ → List ℕ → Result S LoadFault) (ask : StoreAsked) (before now : OutsideState) (a b : OutputState) (e : ServeEnd) (serves : Type 0)
-    → IsReady reads means ask before → MeetsNoFault before now a b → ((values : Differ) → e ≡ Disagree values → serves → ⊥)
+    → IsReady reads means ask before → MeetsNoFault before now a b
     → EndedSo (AreRefused reads (before.settings ask.settings)) (IsDamaged means (before.stores (file_a ask.store)) (before.stores (file_b ask.store))) serves ask e before now
-    → (status_of e ≡ 0) ⊎ (status_of e ≡ 9)
-ended reads means ask before now a b Done serves ready calm agrees so = inl refl
-ended reads means ask before now a b SettingsFailed serves ready calm agrees so = absurd (calm.settings (so.settings_failed refl))
-ended reads means ask before now a b (Refused member) serves ready calm agrees so = absurd (taken_refused reads means ask before member ready (so.refused_at member refl))
-ended reads means ask before now a b StoreFailed serves ready calm agrees so = absurd (calm.stores (so.store_failed refl))
-ended reads means ask before now a b (Damaged file at) serves ready calm agrees so = absurd (stands_damaged reads means ask before file at ready (so.damaged_at file at refl))
-ended reads means ask before now a b NetworkFailed serves ready calm agrees so = absurd (calm.network (so.network_failed refl))
-ended reads means ask before now a b (Disagree values) serves ready calm agrees so = absurd (agrees values refl so.served)
-ended reads means ask before now a b Memory serves ready calm agrees so = inr refl
-
-tx_agrees : (told : Option (List ℕ)) (asked : ℕ) (old new : Around) (e : ServeEnd) (values : Differ) → e ≡ Disagree values → tx_serving.ServesBy told e asked old new → ⊥
-tx_agrees told asked old new (Disagree differ) values is h = h.2.ends.kind
-tx_agrees told asked old new Done values is h = absurd cc
-tx_agrees told asked old new SettingsFailed values is h = absurd cc
-tx_agrees told asked old new (Refused member) values is h = absurd cc
-tx_agrees told asked old new StoreFailed values is h = absurd cc
-tx_agrees told asked old new (Damaged file at) values is h = absurd cc
-tx_agrees told asked old new NetworkFailed values is h = absurd cc
-tx_agrees told asked old new Memory values is h = absurd cc
-
-rx_agrees : (told : Option (List ℕ)) (asked : ℕ) (old new : Around) (e : ServeEnd) (values : Differ) → e ≡ Disagree values → rx_serving.ServesBy told e asked old new → ⊥
-rx_agrees told asked old new (Disagree differ) values is h = h.2.ends.kind
-rx_agrees told asked old new Done values is h = absurd cc
-rx_agrees told asked old new SettingsFailed values is h = absurd cc
-rx_agrees told asked old new (Refused member) values is h = absurd cc
-rx_agrees told asked old new StoreFailed values is h = absurd cc
-rx_agrees told asked old new (Damaged file at) values is h = absurd cc
-rx_agrees told asked old new NetworkFailed values is h = absurd cc
-rx_agrees told asked old new Memory values is h = absurd cc
+    → (status_of e ≡ 0) ⊎ (status_of e ≡ 8) ⊎ (status_of e ≡ 9)
+ended reads means ask before now a b Done serves ready calm so = inl refl
+ended reads means ask before now a b SettingsFailed serves ready calm so = absurd (calm.settings (so.settings_failed refl))
+ended reads means ask before now a b (Refused member) serves ready calm so = absurd (taken_refused reads means ask before member ready (so.refused_at member refl))
+ended reads means ask before now a b StoreFailed serves ready calm so = absurd (calm.stores (so.store_failed refl))
+ended reads means ask before now a b (Damaged file at) serves ready calm so = absurd (stands_damaged reads means ask before file at ready (so.damaged_at file at refl))
+ended reads means ask before now a b NetworkFailed serves ready calm so = absurd (calm.network (so.network_failed refl))
+ended reads means ask before now a b (Disagree values) serves ready calm so = inr (inl refl)
+ended reads means ask before now a b Memory serves ready calm so = inr (inr refl)
 
 served_end : (server : Server) (ask : StoreAsked) (before now : OutsideState) (a b : OutputState) (e : ServeEnd) → servable server ask before → MeetsNoFault before now a b
-    → ServedSo server ask e before now → (status_of e ≡ 0) ⊎ (status_of e ≡ 9)
+    → ServedSo server ask e before now → (status_of e ≡ 0) ⊎ (status_of e ≡ 8) ⊎ (status_of e ≡ 9)
 served_end Transmitter ask before now a b e ready calm so =
-    ended tx_settings_of tx.state_of ask before now a b e _ ready calm
-    (tx_agrees (before.settings ask.settings) ask.count (around_store ask.store before) (around_store ask.store now) e) so
+    ended tx_settings_of tx.state_of ask before now a b e _ ready calm so
 served_end Receiver ask before now a b e ready calm so =
-    ended rx_settings_of rx.state_of ask before now a b e _ ready calm
-    (rx_agrees (before.settings ask.settings) ask.count (around_store ask.store before) (around_store ask.store now) e) so
+    ended rx_settings_of rx.state_of ask before now a b e _ ready calm so
+
+one_same : (status wanted : ℕ) → status ≡ wanted → (wanted ≡ 0) ⊎ (wanted ≡ 8) ⊎ (wanted ≡ 9) → (status ≡ 0) ⊎ (status ≡ 8) ⊎ (status ≡ 9)
+one_same status wanted is h = subst (λ (n : ℕ). (n ≡ 0) ⊎ (n ≡ 8) ⊎ (n ≡ 9)) (sym is) h
+
+pub served_whole : (ask : ServerAsked) (before now : OutsideState) (a b : OutputState) (status : ℕ) → IsServable ask before → MeetsNoFault before now a b
+    → ServerRan ask before now a b status → (status ≡ 0) ⊎ (status ≡ 8) ⊎ (status ≡ 9)
+served_whole ask before now a b status ready calm ran =
+    one_same status (status_of ran.0) (put_whole (status_of ran.0) (last_line ran.0) a b status calm.output calm.flows ran.2)
+    (served_end ask.server ask.over before now a b ran.0 ready calm ran.1)
 
 or_same : (status wanted : ℕ) → status ≡ wanted → (wanted ≡ 0) ⊎ (wanted ≡ 9) → (status ≡ 0) ⊎ (status ≡ 9)
 or_same status wanted is (inl h) = inl (is ∙ h)
 or_same status wanted is (inr h) = inr (is ∙ h)
-
-pub served_whole : (ask : ServerAsked) (before now : OutsideState) (a b : OutputState) (status : ℕ) → IsServable ask before → MeetsNoFault before now a b
-    → ServerRan ask before now a b status → (status ≡ 0) ⊎ (status ≡ 9)
-served_whole ask before now a b status ready calm ran =
-    or_same status (status_of ran.0) (put_whole (status_of ran.0) (last_line ran.0) a b status calm.output calm.flows ran.2)
-    (served_end ask.server ask.over before now a b ran.0 ready calm ran.1)
 
 -- no file is the first that isn't empty where both are
 none_left : (size : ℕ) (a b new_a new_b : Option (List ℕ)) → a ≡ Some [] → b ≡ Some [] → Left size a b new_a new_b → ⊥

@@ -1,5 +1,5 @@
 -- How a run of `serve` or `receive` ends: for each ending its status, its last line, and what became of what the outside tells.
-use Rattle.std.specs.Prelude.{◌≡◌, ◌==◌, ℕ, List, [], ◌++◌, Option, Some, Result, Ok, codes, decimal, if◌then◌else◌}
+use Rattle.std.specs.Prelude.{◌≡◌, ◌==◌, ℕ, List, [], ◌++◌, Some, Result, Ok, codes, decimal, if◌then◌else◌}
 use Rattle.sig_outside.specs.Causes.{Rose}
 use Rattle.sig_command.specs.Moment.{OutputState}
 use Rattle.sig_journal.specs.declared.fault.LoadFault.{LoadFault}
@@ -7,9 +7,7 @@ use Rattle.sig_init.specs.Files.{KeepsBut, StaysTold, file_a, file_b}
 use Rattle.sig_settings.specs.declared.fault.SettingsFault.{SettingsFault}
 use Rattle.sig_txsettings.specs.Settings.{tx_settings_of}
 use Rattle.sig_rxsettings.specs.Settings.{rx_settings_of}
-use Rattle.sig_serving.specs.declared.differ.Differ.TheVariants as differ
-use Rattle.sig_opening.specs.Files.{IsDamaged}
-use Rattle.sig_opening.specs.Settings.{AreRefused}
+use Rattle.sig_logs.specs.declared.difference.Differ.TheVariants as differ
 use Rattle.sig_opening.specs.Stays.{KeepsOtherSettings}
 use Rattle.sig_opening.specs.declared.ending.ServeEnd.{ServeEnd}
 use Rattle.sig_opening.specs.declared.ending.ServeEnd.TheVariants.{Done, SettingsFailed, Refused, StoreFailed, Damaged, NetworkFailed, Disagree, Memory}
@@ -53,7 +51,6 @@ last_line StoreFailed = codes "signals: store failed\n"
 last_line (Damaged file at) = damaged_line file at
 last_line NetworkFailed = codes "signals: network failed\n"
 last_line (Disagree (differ.Turn link place)) = codes "signals: disagree link " ++ decimal link ++ (codes " place " ++ decimal place ++ codes "\n")
-last_line (Disagree differ.Base) = codes "signals: disagree base\n"
 last_line Memory = codes "signals: memory\n"
 
 -- ---- what it did

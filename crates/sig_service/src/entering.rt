@@ -6,11 +6,12 @@ use sig_standard::{ReaderSource, WriterSink};
 use sig_tcp::SystemOutside;
 use std::process::ExitCode;
 use std::sync::Wait;
+use std::thread::Threads;
 
 /// Runs the program over what the system gives it, by the leave to wait that only `main` can give. Words that are no text, or
 /// could not be held, end as `sig_program::start` ends them. Why the settings, a store or the door couldn't be had is said on
 /// standard error too.
-pub fn enter<W: Wait>(wait: &W, rt: &HostRuntime) -> ExitCode {
+pub fn enter<W: Threads + Wait + Sync>(wait: &W, rt: &HostRuntime) -> ExitCode {
     let alloc = rt.alloc();
     let mut input = ReaderSource::new(rt.stdin());
     let mut output = WriterSink::new(rt.stdout());

@@ -23,6 +23,7 @@ use sig_links::Outside;
 use sig_outside::{Sink, Source};
 use std::alloc::Global;
 use std::sync::Wait;
+use std::thread::Threads;
 
 /// Does what the words ask for, and answers the exit status. For the words of `serve` and `receive` it may wait for links.
 ///
@@ -30,7 +31,7 @@ use std::sync::Wait;
 /// read, 10 where they are refused, 5 where a file of the store couldn't be opened or its disk failed, 6 where the store is
 /// damaged, 7 where the door couldn't be opened or it failed, 8 where two kept values differ, 9 out of memory, and 4 where the
 /// output stopped at the last line. For all other words it is the one of `run_plain`.
-pub fn run<R: Wait, X: Outside, I: Source, O: Sink>(
+pub fn run<R: Threads + Wait + Sync, X: Outside, I: Source, O: Sink>(
     alloc: Global,
     rt: &R,
     words: &[String],
@@ -61,13 +62,14 @@ pub fn run<R: Wait, X: Outside, I: Source, O: Sink>(
     // The input is not even asked where no command reads it.
     ensures unasked { command_of (map (λ word. string_bytes word) words.now) ≡ None → input.new ≡ input.old }
 
-    // Without faults, settings that are taken and a store that stands for a state are served to the end, or out of memory.
+    // Without faults, settings that are taken and a store that stands for a state are served to the end, or until something
+    // differs, or until memory runs out.
     ensures served { (ask : spec.ServerAsked) → spec.server_of (map (λ word. string_bytes word) words.now) ≡ Some ask
         → IsServable ask (outside_state X.settings_of X.held X.doors X.doors_back X.sides X.sides_back X.settings_faults X.store_faults X.network_faults outside.old)
         → MeetsNoFault (outside_state X.settings_of X.held X.doors X.doors_back X.sides X.sides_back X.settings_faults X.store_faults X.network_faults outside.old)
         (outside_state X.settings_of X.held X.doors X.doors_back X.sides X.sides_back X.settings_faults X.store_faults X.network_faults outside.new)
         (output_state (O.written output.old) (O.faults output.old) (O.stalls output.old)) (output_state (O.written output.new) (O.faults output.new) (O.stalls output.new))
-        → (result ≡ 0) ⊎ (result ≡ 9) }
+        → (result ≡ 0) ⊎ (result ≡ 8) ⊎ (result ≡ 9) }
 
     // Without faults, settings that are taken and name a transmitter, and a store that stands for a state: a fetch is done, or memory
     // ran out, the journal is full, or the transmitter gave no page.

@@ -16,9 +16,10 @@ use sig_receive::receive;
 use sig_serve::{Differ, ServeEnd, serve};
 use std::alloc::Global;
 use std::sync::Wait;
+use std::thread::Threads;
 
 // Serves a store as it is asked for, puts the last line, and answers the exit status.
-pub(crate) fn run_server<R: Wait, X: Outside, O: Sink>(
+pub(crate) fn run_server<R: Threads + Wait + Sync, X: Outside, O: Sink>(
     alloc: Global,
     rt: &R,
     server: Server,
@@ -37,7 +38,7 @@ pub(crate) fn run_server<R: Wait, X: Outside, O: Sink>(
 }
 
 // Serves a store by its server.
-fn served<R: Wait, X: Outside>(
+fn served<R: Threads + Wait + Sync, X: Outside>(
     alloc: Global,
     rt: &R,
     server: Server,
@@ -73,7 +74,7 @@ fn close<O: Sink>(end: ServeEnd, output: &mut O) -> u8
     }
 }
 
-// Puts the last line where these two kept values differ.
+// Puts the last line where this differs.
 fn put_disagree<O: Sink>(differ: Differ, output: &mut O) -> u8
     ensures { PutLast 8 (last_line (ServeEnd.Disagree differ)) (output_state (O.written output.old) (O.faults output.old) (O.stalls output.old)) (output_state (O.written output.new) (O.faults output.new) (O.stalls output.new)) result }
 {
@@ -84,6 +85,5 @@ fn put_disagree<O: Sink>(differ: Differ, output: &mut O) -> u8
             let place = numbered(" place ", place);
             put_last_of(8, "signals: disagree link ", link, place.as_str(), output)
         }
-        Differ::Base => put_last(8, "signals: disagree base\n", output),
     }
 }

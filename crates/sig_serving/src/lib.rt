@@ -14,13 +14,11 @@
 //! answered.
 #![tactic(auto)]
 
-mod differ;
 mod link_end;
 mod sending;
 mod stop;
 mod threads;
 
-pub use differ::Differ;
 pub use link_end::LinkEnd;
 pub use sending::{refuse, run_out, send};
 pub use stop::Stop;

@@ -1,10 +1,9 @@
 //! What is told of a link and of a watch moves between threads, which the check of these calls shows.
 
-use crate::{Differ, LinkEnd, Stop};
+use crate::{LinkEnd, Stop};
 use sig_json::crosses_threads;
 
 fn types_cross() {
     crosses_threads::<LinkEnd>();
     crosses_threads::<Stop>();
-    crosses_threads::<Differ>();
 }

@@ -98,10 +98,7 @@ impl<R: Net<Listener = TcpListener, Stream = TcpStream> + Clock + Copy + Send> D
         }
     }
 
-    // What still comes is taken, so that the last response isn't lost to a reset.
-    fn back(&mut self, mut link: TcpLink, _side: TcpSide<R>) {
-        link.take_rest();
-    }
+    fn back(&mut self, _link: TcpLink, _side: TcpSide<R>) {}
 }
 
 // The next link. One whose peer went away before it was accepted is passed over.

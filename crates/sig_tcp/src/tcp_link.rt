@@ -15,7 +15,7 @@ pub const READ_SECONDS: u64 = 30;
 /// How many seconds a write to a link waits for room before it fails.
 pub const WRITE_SECONDS: u64 = 30;
 
-/// How many milliseconds each read waits that takes what still comes on a link that was given back.
+/// How many milliseconds each read waits that takes what still comes on a link that has ended.
 pub const REST_MILLISECONDS: u64 = 250;
 
 /// How many such reads there are at most.
@@ -72,24 +72,6 @@ impl TcpLink {
     {
         self.writes.count()
     }
-
-    // Ends the sending side and takes what still comes, up to the bounds above. A system that closes a connection with bytes
-    // that nobody read resets it, and the peer may then lose the last response.
-    pub(crate) fn take_rest(&mut self) {
-        let wait = Duration::from_millis(REST_MILLISECONDS);
-        if self.stream.shutdown(Shutdown::Write).is_err()
-            || self.stream.set_read_timeout(Some(wait)).is_err()
-        {
-            return;
-        }
-        let mut rest = [0u8; REST_BYTES];
-        for _ in 0..REST_READS {
-            match read_again(&mut self.stream, &mut rest) {
-                Ok(count) if count > 0 => {}
-                _ => return,
-            }
-        }
-    }
 }
 
 impl Source for TcpLink {
@@ -134,9 +116,29 @@ impl Link for TcpLink {
 
     ghost dialled = { λ l. l.dialled };
 
+    fn finish(&mut self) {
+        take_rest(&mut self.stream);
+    }
+
     ghost beside_reads = { λ l. refl };
 
     ghost beside_writes = { λ l. refl };
 
     ghost moves = { λ l. refl };
+}
+
+// Ends the sending side and takes what still comes, up to the bounds above. A system that closes a connection with bytes that
+// nobody read resets it, and the peer may then lose the last response.
+fn take_rest(stream: &mut TcpStream) {
+    let wait = Duration::from_millis(REST_MILLISECONDS);
+    if stream.shutdown(Shutdown::Write).is_err() || stream.set_read_timeout(Some(wait)).is_err() {
+        return;
+    }
+    let mut rest = [0u8; REST_BYTES];
+    for _ in 0..REST_READS {
+        match read_again(stream, &mut rest) {
+            Ok(count) if count > 0 => {}
+            _ => return,
+        }
+    }
 }

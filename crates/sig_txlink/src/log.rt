@@ -1,6 +1,7 @@
 ghost use Rattle.std.specs.Prelude.{◌≡◌, IfOk};
 
 use sig_json::{Items, Memory, copy_items};
+use sig_logs::Logged;
 use sig_serving::LinkEnd;
 use sig_txnode::Turn;
 use std::alloc::Global;
@@ -26,5 +27,21 @@ impl LinkLog {
             turns: copy_items(alloc, &self.turns)?,
             end: self.end,
         })
+    }
+}
+
+impl Logged for LinkLog {
+    type Turn = Turn;
+
+    ghost number_of = { λ l. l.link };
+
+    ghost turns_of = { λ l. l.turns };
+
+    fn number(&self) -> u32 {
+        self.link
+    }
+
+    fn turns(&self) -> &[Turn] {
+        self.turns.as_slice()
     }
 }

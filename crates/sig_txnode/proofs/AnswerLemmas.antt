@@ -1,6 +1,6 @@
 -- What follows of a call's answer from what the call is told.
 use Rattle.std.proofs.Common.{◌≡◌, ◌∙◌, ap, sym, subst, refl, inl, inr, ℕ, true, false, Option, Some, None, Result, Ok, Err}
-use Rattle.std.specs.Prelude.{◌⊎◌, IfSome, is_some}
+use Rattle.std.specs.Prelude.{◌⊎◌, IfOk, IfSome, is_some}
 use Rattle.std.proofs.lemmas.Bool.{false≢true}
 use Rattle.sig_terms.specs.declared.answer.Answer.{Answer}
 use Rattle.sig_terms.specs.declared.call.Call.{Call}
@@ -19,7 +19,7 @@ use Rattle.sig_calls.proofs.RegularLemmas.{calls_regular}
 use Rattle.sig_calls.proofs.ReplyLemmas.{reply_of}
 use Rattle.sig_store.specs.declared.fault.NodeFault.{NodeFault}
 use Rattle.sig_store.specs.declared.fault.NodeFault.TheVariants.{Store, Full, Memory}
-use Rattle.sig_txnode.specs.Answering.{Answered, IsAnswered, answer_at, answer_with, sum_after, when_ok}
+use Rattle.sig_txnode.specs.Answering.{Answered, IsAnswerTo, IsAnswered, answer_at, answer_with, sum_after, when_ok}
 use Rattle.sig_txnode.specs.Planned.{refused_as}
 
 -- the change of a reply is that of the table
@@ -105,3 +105,9 @@ answered_as told told' change change' broken_at before before' after result same
   answer = subst (λ (b : Option ℕ). IsAnswered b told result) (sym whole) (subst (λ (t : Result Answer NodeFault). IsAnswered None t result) (sym same_told) h.answer);
   state = h.state ∙ ap (λ (s : Sum). sum_after s (when_ok result change')) same_before ∙ ap (λ (o : Option Fact). sum_after before (when_ok result o)) (sym same_change);
 }
+
+-- what is answered is what the table gives to the call at some state
+pub answers_row : (broken_at : Option ℕ) (rules : Rules) (sum : Sum) (end : ℕ) (call : Call) (now : ℕ) (result : Result Answer NodeFault)
+    → IsAnswered broken_at (answer_at rules sum end call now) result → IfOk result (λ (answer : Answer). IsAnswerTo call now answer)
+answers_row broken_at rules sum end call now (Err fault) h = tt
+answers_row broken_at rules sum end call now (Ok answer) h = (rules, sum, end, (told_answer broken_at (answer_at rules sum end call now) answer h).1)

@@ -4,3 +4,4 @@ pub mod CarryLemmas
 pub mod LoadLemmas
 pub mod NodeLemmas
 pub mod OpenLemmas
+pub mod Crossing

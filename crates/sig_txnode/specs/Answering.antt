@@ -37,6 +37,10 @@ answer_with end (Err prepare.Memory) = Err Memory
 abbrev pub answer_at : Rules → Sum → ℕ → Call → ℕ → Result Answer NodeFault
 answer_at rules sum end call now = answer_with end (prepared_of rules sum call now)
 
+-- an answer that the table gives to this call at this time, by some rules and at some state
+abbrev pub IsAnswerTo : Call → ℕ → Answer → Type 0
+IsAnswerTo call now answer = (rules : Rules) × (sum : Sum) × (end : ℕ) × (answer_at rules sum end call now ≡ Ok answer)
+
 -- a call's answer: want of memory comes whenever it likes; a node that is broken answers that its store failed; and any other
 -- answers so where it is told an answer, or as it is told
 abbrev pub IsAnswered : Option ℕ → Result Answer NodeFault → Result Answer NodeFault → Type 0

@@ -25,6 +25,7 @@ mod records;
 mod taker;
 mod threads;
 mod turn;
+mod watched;
 
 pub use node::TxNode;
 pub use sig_journal::{LoadFault, LoadRefused};

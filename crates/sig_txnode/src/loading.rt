@@ -28,20 +28,8 @@ fn take_up(alloc: Global, outbox: &mut Outbox, payload: &[u8]) -> Result<(), App
     }
 }
 
-/// The state that a store's records come to, twice; or the gate of the first that isn't taken up.
-pub fn states_in<D: Disk>(alloc: Global, loaded: &Loaded<D>) -> Result<(Outbox, Outbox), LoadFault>
-    requires { loaded.now.places ≡ places_of (35 + length loaded.now.snapshot) loaded.now.records }
-    ensures state { Answers LoadFault.Memory (result_map (λ o. o.0.sum) result) (in_file_at loaded.now.file (state_after sending.step (empty_sum loaded.now.store_id) (35 + length loaded.now.snapshot) loaded.now.records)) }
-    ensures base { IfOk result (λ o. o.1.sum ≡ o.0.sum) }
-    ensures whole { IfOk result (λ o. IsWhole o.0.sum) }
-{
-    let outbox = state_in(alloc, loaded)?;
-    let base = outbox.copy()?;
-    Ok((outbox, base))
-}
-
-// The state that a store's records come to.
-fn state_in<D: Disk>(alloc: Global, loaded: &Loaded<D>) -> Result<Outbox, LoadFault>
+/// The state that a store's records come to; or the gate of the first that isn't taken up.
+pub fn state_in<D: Disk>(alloc: Global, loaded: &Loaded<D>) -> Result<Outbox, LoadFault>
     requires { loaded.now.places ≡ places_of (35 + length loaded.now.snapshot) loaded.now.records }
     ensures state { Answers LoadFault.Memory (result_map (λ o. o.sum) result) (in_file_at loaded.now.file (state_after sending.step (empty_sum loaded.now.store_id) (35 + length loaded.now.snapshot) loaded.now.records)) }
     ensures whole { IfOk result (λ o. IsWhole o.sum) }

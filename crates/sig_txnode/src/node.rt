@@ -17,7 +17,7 @@ ghost use Rattle.sig_txnode.specs.Records.{sending};
 
 use crate::Turn;
 use crate::keeping::{Held, take_turn};
-use crate::loading::states_in;
+use crate::loading::state_in;
 use sig_journal::{Kind, LoadFault, LoadRefused, Loaded};
 use sig_json::Memory;
 use sig_json::limits::LAST_NUMBER;
@@ -27,6 +27,7 @@ use sig_store::{NodeFault, Store};
 use sig_terms::{Answer, Call, Fact, Rules};
 use std::alloc::Global;
 use std::marker::Model;
+use std::snapshot::Snapshot;
 
 /// A transmitter over the two files of a store. It keeps its allocator.
 ///
@@ -35,7 +36,7 @@ use std::marker::Model;
 pub struct TxNode<D: Disk> {
     alloc: Global,
     rules: Rules,
-    base: Outbox,
+    base: Snapshot<Outbox>,
     held: Held<D>,
 }
 
@@ -44,9 +45,9 @@ impl<D: Disk> Model for TxNode<D> {
 
     ghost Value = { NodeView D };
 
-    ghost view = { λ n. record { store = n.held.store; rules = n.rules; state = n.held.outbox.sum; base = n.base.sum; entries = n.held.entries.items; turns = n.held.turns.items } };
+    ghost view = { λ n. record { store = n.held.store; rules = n.rules; state = n.held.outbox.sum; base = n.base.value.sum; entries = n.held.entries.items; turns = n.held.turns.items } };
 
-    ghost invariant = { λ n. IsNode D.told D.seen D.may_leave (record { store = n.held.store; rules = n.rules; state = n.held.outbox.sum; base = n.base.sum; entries = n.held.entries.items; turns = n.held.turns.items }) };
+    ghost invariant = { λ n. IsNode D.told D.seen D.may_leave (record { store = n.held.store; rules = n.rules; state = n.held.outbox.sum; base = n.base.value.sum; entries = n.held.entries.items; turns = n.held.turns.items }) };
 }
 
 impl<D: Disk> TxNode<D> {
@@ -112,20 +113,15 @@ impl<D: Disk> TxNode<D> {
         )
     }
 
-    /// Opens a watch of a node that isn't broken: from now on its base is its state, and it has no turn and no entry. It gives
-    /// a copy of the base. Out of memory is its only error, and changes nothing.
-    pub fn open_watch(&mut self) -> Result<Outbox, Memory>
+    /// Opens a watch of a node that isn't broken: from now on its base is its state, and it has no turn and no entry. The base is
+    /// what contracts see of the state, so it copies nothing; it takes no memory.
+    pub fn open_watch(&mut self)
         requires { self.old.store.broken_at ≡ None }
-        ensures report { IfOk result (λ report. report.sum ≡ self.old.state) }
-        ensures opens { OnOk result (self.new ≡ begun self.old) }
-        ensures memory { OnErr result (self.new ≡ self.old) }
+        ensures opens { self.new ≡ begun self.old }
     {
-        let report = self.held.outbox.copy()?;
-        let base = self.held.outbox.copy()?;
-        self.base = base;
+        self.base = Snapshot::of(&self.held.outbox);
         self.held.entries = Vec::new(self.alloc);
         self.held.turns = Vec::new(self.alloc);
-        Ok(report)
     }
 
     /// The rules by which calls are answered. They are proper ones.
@@ -135,14 +131,7 @@ impl<D: Disk> TxNode<D> {
         &self.rules
     }
 
-    /// The state when the watch was opened, or the node was loaded.
-    pub fn base(&self) -> &Outbox
-        ensures { result.now.sum ≡ self.now.base }
-    {
-        &self.base
-    }
-
-    /// The turns since then, in order.
+    /// The turns since the watch was opened, or the node was loaded, in order.
     pub fn turns(&self) -> &[Turn]
         ensures { result.now ≡ self.now.turns }
     {
@@ -236,8 +225,8 @@ fn opened<D: Disk>(
     ensures files { MatchResult result (λ n. n.store.journal ≡ loaded.journal)
         (λ r. (r.a ≡ pick loaded.journal.in_b loaded.journal.written loaded.journal.other) × (r.b ≡ pick loaded.journal.in_b loaded.journal.other loaded.journal.written)) }
 {
-    match states_in(alloc, &loaded) {
-        Ok((outbox, base)) => {
+    match state_in(alloc, &loaded) {
+        Ok(outbox) => {
             let Loaded {
                 journal,
                 file: _,
@@ -249,7 +238,7 @@ fn opened<D: Disk>(
             Ok(TxNode {
                 alloc,
                 rules,
-                base,
+                base: Snapshot::of(&outbox),
                 held: Held {
                     store: Store::open(journal),
                     outbox,

@@ -1,6 +1,6 @@
-ghost use Rattle.std.specs.Prelude.{◌≡◌, Option, Some};
+ghost use Rattle.std.specs.Prelude.{◌≡◌, IfOk, Option, Some};
 ghost use Rattle.sig_calls.specs.Proper.{IsProperCall};
-ghost use Rattle.sig_txnode.specs.Answering.{time_used};
+ghost use Rattle.sig_txnode.specs.Answering.{IsAnswerTo, time_used};
 ghost use Rattle.sig_txnode.specs.Node.{files_told};
 ghost use Rattle.sig_txnode.specs.Told.{KeepsTurn, TakerTold};
 
@@ -29,7 +29,10 @@ pub trait Taker {
         now: u64,
     ) -> Result<Answer, NodeFault>
         requires { IsProperCall call.now }
-        ensures kept { KeepsTurn (told self.old) (told self.new) link call.now (time_used now) result };
+        ensures kept { KeepsTurn (told self.old) (told self.new) link call.now (time_used now) result }
+
+        // What it answers is what the table gives to the call at some state, told or not.
+        ensures row { IfOk result (λ answer. IsAnswerTo call.now (time_used now) answer) };
 }
 
 impl<D: Disk> Taker for TxNode<D> {

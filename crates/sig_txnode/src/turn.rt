@@ -1,6 +1,7 @@
 ghost use Rattle.std.specs.Prelude.{◌≡◌, ◌↔◌, IfOk, IsTrue};
 
 use sig_json::{Copied, Memory, Same};
+use sig_logs::LinkTurn;
 use sig_store::NodeFault;
 use sig_terms::{Answer, Call};
 use std::alloc::Global;
@@ -69,5 +70,13 @@ impl Same for Turn {
             && self.now == other.now
             && self.call.same(&other.call)
             && same_results(&self.result, &other.result)
+    }
+}
+
+impl LinkTurn for Turn {
+    ghost link_of = { λ t. t.link };
+
+    fn link(&self) -> u32 {
+        self.link
     }
 }

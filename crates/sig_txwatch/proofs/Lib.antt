@@ -1,4 +1,2 @@
-pub mod ServesLemmas
-pub mod WatchLemmas
-pub mod LinkLemmas
+pub mod Crossing
 pub mod EndLemmas

@@ -1,3 +1,3 @@
-pub mod Links
-pub mod Watch
+pub mod Opening
+pub mod Serving
 pub mod Ends

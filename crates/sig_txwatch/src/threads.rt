@@ -1,11 +1,8 @@
-//! Reports and the ends of watches move between threads, which the check of these calls shows.
+//! Reports move between threads, which the check of this call shows.
 
-use crate::{Differ, Report, WatchEnd};
+use crate::{LinkLog, Report};
 use sig_json::crosses_threads;
-use sig_outside::Disk;
 
-fn types_cross<D: Disk + Send + Sync>() {
-    crosses_threads::<Report>();
-    crosses_threads::<Differ>();
-    crosses_threads::<WatchEnd<D>>();
+fn types_cross() {
+    crosses_threads::<Report<LinkLog>>();
 }

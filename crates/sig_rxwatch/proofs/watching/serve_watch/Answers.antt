@@ -1,43 +1,18 @@
-use Rattle.std.proofs.Common.{◌∙◌, ap, sym}
-use Rattle.sig_serving.specs.Door.{door_view}
-use Rattle.sig_rxnode.specs.Node.{NodeView, base_of, begun}
-use Rattle.sig_rxwatch.specs.Ends.{IfReport}
-use Rattle.sig_rxwatch.proofs.EndLemmas.{WasServed, has_report, has_turns, reported_agrees, reported_hands, served_from}
+use Rattle.sig_rxnode.specs.Holding.{IsHolding}
+use Rattle.sig_rxnode.specs.Node.{IsHistory}
+use Rattle.sig_rxwatch.specs.Ends.{Follows, IsOneHistory}
+use Rattle.sig_rxwatch.proofs.EndLemmas.{it_follows, one_history}
+use Rattle.sig_watch.proofs.EndLemmas.{follows}
 use Rattle.sig_rxwatch.proofs.watching.serve_watch.Goals as goal
 
-pub returns-in-Ok-clause-report : goal.returns-in-Ok-clause-report
-returns-in-Ok-clause-report g c =
-    let A = g.A.Door in
-    let old = c.args.node in
-    let door = door_view A.coming A.served A.out A.place A.faults c.args.door.now in
-    let door' = door_view A.coming A.served A.out A.place A.faults c.watch.new.door in
-    let served : IfReport c.watch.result (WasServed g.D.Disk.told old.rules c.watch.result (begun old) door door') =
-    served_from g.D.Disk.told old.rules c.in-Ok.opening.rules c.watch.result (begun old) c.open.new.node door door' c.in-Ok.ensures.rules c.in-Ok.ensures.begins c.watch.ensures.links in
-    has_report g.D.Disk.told old.rules old c.watch.result door door' (ap (λ (n : NodeView g.row.D.Denot). base_of n) (sym c.in-Ok.ensures.begins) ∙ c.in-Ok.ensures.base) served
+pub returns-in-Ok-clause-follows : goal.returns-in-Ok-clause-follows
+returns-in-Ok-clause-follows g c =
+    let D = g.D.Disk in
+    follows _ (λ now report. Follows D.told c.args.node now) c.watch.result
+    (λ now report stays. it_follows D.told D.seen D.may_leave c.args.node c.open_watch.new.self now c.broken_at.ensures.holds c.open_watch.ensures stays) c.watch.ensures.stays
 
 pub returns-in-Ok-clause-history : goal.returns-in-Ok-clause-history
-returns-in-Ok-clause-history g c = c.watch.ensures.history
-
-pub returns-in-Ok-clause-links : goal.returns-in-Ok-clause-links
-returns-in-Ok-clause-links g c =
-    let A = g.A.Door in
-    let old = c.args.node in
-    let door = door_view A.coming A.served A.out A.place A.faults c.args.door.now in
-    let door' = door_view A.coming A.served A.out A.place A.faults c.watch.new.door in
-    served_from g.D.Disk.told old.rules c.in-Ok.opening.rules c.watch.result (begun old) c.open.new.node door door' c.in-Ok.ensures.rules c.in-Ok.ensures.begins c.watch.ensures.links
-
-pub returns-in-Ok-clause-turns : goal.returns-in-Ok-clause-turns
-returns-in-Ok-clause-turns g c =
-    let A = g.A.Door in
-    let old = c.args.node in
-    let door = door_view A.coming A.served A.out A.place A.faults c.args.door.now in
-    let door' = door_view A.coming A.served A.out A.place A.faults c.watch.new.door in
-    let served : IfReport c.watch.result (WasServed g.D.Disk.told old.rules c.watch.result (begun old) door door') =
-    served_from g.D.Disk.told old.rules c.in-Ok.opening.rules c.watch.result (begun old) c.open.new.node door door' c.in-Ok.ensures.rules c.in-Ok.ensures.begins c.watch.ensures.links in
-    has_turns g.D.Disk.told old.rules old c.watch.result door door' served
-
-pub returns-in-Ok-clause-memory : goal.returns-in-Ok-clause-memory
-returns-in-Ok-clause-memory g c = reported_hands c.args.node c.args.door.now c.watch.new.door c.watch.result c.watch.ensures.ends
-
-pub returns-in-Ok-clause-agrees : goal.returns-in-Ok-clause-agrees
-returns-in-Ok-clause-agrees g c = reported_agrees c.watch.result c.watch.ensures.ends
+returns-in-Ok-clause-history g c =
+    let D = g.D.Disk in
+    follows (λ now report. IsHolding D.told D.seen D.may_leave now.kept × IsHistory now) (λ now report. IsOneHistory D.told D.seen D.may_leave now) c.watch.result
+    (λ now report kept. one_history D.told D.seen D.may_leave now kept.0 kept.1) c.watch.ensures.kept

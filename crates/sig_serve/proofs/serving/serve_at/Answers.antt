@@ -3,12 +3,12 @@ use Rattle.std.proofs.Common.{inl, refl}
 use Rattle.sig_opening.proofs.DoorLemmas.{doors_same, risen_more, served_at}
 use Rattle.sig_opening.specs.Watches.{RunsTo}
 use Rattle.sig_serve.specs.Door.{with_door}
-use Rattle.sig_serve.specs.Watches.{IsWatch, reports_shut}
+use Rattle.sig_serve.specs.Watches.{IsWatch, tells_of}
 use Rattle.sig_serve.proofs.serving.serve_at.Goals as goal
 
 pub returns-in-Ok-clause-serves : goal.returns-in-Ok-clause-serves
 returns-in-Ok-clause-serves g c =
-    served_at (with_door g.X.D.Disk.told) (RunsTo (IsWatch c.args.node.rules) reports_shut c.run_watches-served.result.end c.args.watches) _ _ _ _ _ _ _ _ _ _ _ _ _ _ _ c.run_watches-served.ensures.runs
+    served_at (with_door g.X.D.Disk.told) (RunsTo (IsWatch c.args.node.rules) tells_of c.run_watches-served.result.end c.args.watches) _ _ _ _ _ _ _ _ _ _ _ _ _ _ _ c.run_watches-served.ensures.runs
     c.in-Ok.ensures.place c.in-Ok.ensures.next c.back_door.ensures.doors c.in-Ok.ensures.begins c.in-Ok.ensures.whole c.in-Ok.ensures.back c.in-Ok.ensures.lends c.back_door.ensures.back
 
 pub returns-in-Ok-clause-network : goal.returns-in-Ok-clause-network

@@ -1,36 +1,45 @@
-use Rattle.std.proofs.Common.{◌∙◌, ap}
+use Rattle.std.proofs.Common.{◌∙◌, None, Some, ap, refl, []}
 use Rattle.sig_serving.specs.Door.{door_view}
-use Rattle.sig_txwatch.specs.declared.report.Report.{Report}
-use Rattle.sig_opening.specs.declared.ending.ServeEnd.TheVariants.{Done, StoreFailed, NetworkFailed}
-use Rattle.sig_opening.proofs.WatchLemmas.{goes_on, if_none, if_shut, stops_before, stops_with}
+use Rattle.sig_watch.proofs.DoorLemmas.{door_failed}
+use Rattle.sig_opening.specs.declared.ending.ServeEnd.TheVariants.{Done, StoreFailed, NetworkFailed, Disagree}
+use Rattle.sig_opening.proofs.WatchLemmas.{agree_none, agree_one, goes_on, if_none, if_shut, stops_before, stops_with}
 use Rattle.sig_serve.specs.Door.{with_door}
-use Rattle.sig_serve.specs.Watches.{IsWatch, reports_shut}
+use Rattle.sig_serve.specs.Watches.{IsWatch, tells_of}
 use Rattle.sig_serve.proofs.RunLemmas.{watch_is}
 use Rattle.sig_serve.proofs.watches.run_watch.Goals as goal
 
 pub returns-in-Done-clause-goes_on : goal.returns-in-Done-clause-goes_on
 returns-in-Done-clause-goes_on g c =
-    let watch = watch_is g.D.Disk.told g.D.Disk.seen g.D.Disk.may_leave c.args.node c.in-Done.node c.in-Done.report _ _ _ c.in-Done.ensures.report c.in-Done.ensures.history c.in-Done.ensures.links c.in-Done.ensures.turns in
-    if_none c.end_after.result _ (goes_on (IsWatch c.args.node.rules) _ _ watch.0 watch.2)
+    let watch = watch_is g.D.Disk.told g.D.Disk.seen g.D.Disk.may_leave c.args.node c.in-Done.node c.in-Done.report _ _ _ None c.in-Done.ensures.follows c.in-Done.ensures.history c.in-Done.ensures.links c.in-Done.ensures.links.ends.0 in
+    if_none c.end_after.result _ (goes_on (IsWatch c.args.node.rules) tells_of _ _ watch.0 watch.3 watch.2)
 
 pub returns-in-Done-clause-stops : goal.returns-in-Done-clause-stops
 returns-in-Done-clause-stops g c =
-    let watch = watch_is g.D.Disk.told g.D.Disk.seen g.D.Disk.may_leave c.args.node c.in-Done.node c.in-Done.report _ _ _ c.in-Done.ensures.report c.in-Done.ensures.history c.in-Done.ensures.links c.in-Done.ensures.turns in
+    let watch = watch_is g.D.Disk.told g.D.Disk.seen g.D.Disk.may_leave c.args.node c.in-Done.node c.in-Done.report _ _ _ None c.in-Done.ensures.follows c.in-Done.ensures.history c.in-Done.ensures.links c.in-Done.ensures.links.ends.0 in
     if_shut c.in-Done.report.shut c.end_after.result _ c.end_after.ensures
-    (λ shut. stops_with (IsWatch c.args.node.rules) reports_shut Done _ _ watch.0 tt (λ memory. absurd cc) (λ done. ap (λ (r : Report). r.shut) watch.1 ∙ shut) watch.2)
+    (λ shut. stops_with (IsWatch c.args.node.rules) tells_of Done _ _ watch.0 tt (λ memory. absurd cc) (λ done. ap (λ r. r.shut) watch.1 ∙ shut) watch.3 (agree_one tells_of watch.0 watch.2))
 
 pub returns-in-DoorFault-clause-stops : goal.returns-in-DoorFault-clause-stops
 returns-in-DoorFault-clause-stops g c =
-    let watch = watch_is g.D.Disk.told g.D.Disk.seen g.D.Disk.may_leave c.args.node c.in-DoorFault.node c.in-DoorFault.report _ _ _ c.in-DoorFault.ensures.report c.in-DoorFault.ensures.history c.in-DoorFault.ensures.links c.in-DoorFault.ensures.turns in
-    stops_with (IsWatch c.args.node.rules) reports_shut NetworkFailed _ _ watch.0 tt (λ memory. absurd cc) (λ done. absurd cc) watch.2
+    let watch = watch_is g.D.Disk.told g.D.Disk.seen g.D.Disk.may_leave c.args.node c.in-DoorFault.node c.in-DoorFault.report _ _ _ None c.in-DoorFault.ensures.follows c.in-DoorFault.ensures.history c.in-DoorFault.ensures.links c.in-DoorFault.ensures.links.ends.0 in
+    stops_with (IsWatch c.args.node.rules) tells_of NetworkFailed _ _ watch.0 tt (λ memory. absurd cc) (λ done. absurd cc) watch.3 (agree_one tells_of watch.0 watch.2)
+
+pub returns-in-DoorFault-clause-network : goal.returns-in-DoorFault-clause-network
+returns-in-DoorFault-clause-network g c = λ is. door_failed _ _ _ _ _ c.in-DoorFault.ensures.links.ends.2 c.in-DoorFault.ensures.links.attends
 
 pub returns-in-Broken-clause-stops : goal.returns-in-Broken-clause-stops
 returns-in-Broken-clause-stops g c =
-    let watch = watch_is g.D.Disk.told g.D.Disk.seen g.D.Disk.may_leave c.args.node c.in-Broken.node c.in-Broken.report _ _ _ c.in-Broken.ensures.report c.in-Broken.ensures.history c.in-Broken.ensures.links c.in-Broken.ensures.turns in
-    stops_with (IsWatch c.args.node.rules) reports_shut StoreFailed _ _ watch.0 tt (λ memory. absurd cc) (λ done. absurd cc) watch.2
+    let watch = watch_is g.D.Disk.told g.D.Disk.seen g.D.Disk.may_leave c.args.node c.in-Broken.node c.in-Broken.report _ _ _ None c.in-Broken.ensures.follows c.in-Broken.ensures.history c.in-Broken.ensures.links c.in-Broken.ensures.links.ends.0 in
+    stops_with (IsWatch c.args.node.rules) tells_of StoreFailed _ _ watch.0 tt (λ memory. absurd cc) (λ done. absurd cc) watch.3 (agree_one tells_of watch.0 watch.2)
+
+pub returns-in-Disagree-clause-stops : goal.returns-in-Disagree-clause-stops
+returns-in-Disagree-clause-stops g c =
+    let watch = watch_is g.D.Disk.told g.D.Disk.seen g.D.Disk.may_leave c.args.node c.in-Disagree.node c.in-Disagree.report _ _ _ (Some c.in-Disagree.differ) c.in-Disagree.ensures.follows c.in-Disagree.ensures.history c.in-Disagree.ensures.links c.in-Disagree.ensures.links.ends in
+    stops_with (IsWatch c.args.node.rules) tells_of (Disagree c.in-Disagree.differ) _ _ watch.0 tt (λ memory. absurd cc) (λ done. absurd cc) watch.3
+    (record { before = []; last = watch.0; parts = refl; agree = agree_none tells_of; differs = watch.2 })
 
 pub returns-in-Memory-clause-stops : goal.returns-in-Memory-clause-stops
 returns-in-Memory-clause-stops g c =
     let same = c.in-Memory.ensures.memory in
-    stops_before (IsWatch c.args.node.rules) reports_shut _ _
+    stops_before (IsWatch c.args.node.rules) tells_of _ _
     (λ i. with_door g.D.Disk.told (same.0 i) (door_view g.A.Door.coming g.A.Door.served g.A.Door.out g.A.Door.place g.A.Door.faults (same.1 i)))

@@ -1,24 +1,33 @@
-use Rattle.std.proofs.Common.{◌≡◌, refl}
+use Rattle.std.proofs.Common.{◌≡◌}
+use denote.Param.{param}
+use denote.Param.Send.{param_sync}
+use Rattle.sig_serving.specs.Stops.{is_shut}
+use Rattle.sig_watch.proofs.EndLemmas.{of_node, why_ended}
 use Rattle.sig_txnode.specs.Node.{IsNode}
-use Rattle.sig_serving.specs.Door.{door_view}
-use Rattle.sig_txwatch.proofs.EndLemmas.{WasServed, ends_reported, reported, why_ended}
+use Rattle.sig_txwatch.specs.Opening.{told_before}
+use Rattle.sig_txwatch.specs.Serving.{ServesOne}
+use Rattle.sig_txwatch.proofs.EndLemmas.{told_same}
+use Rattle.sig_txwatch.proofs.Crossing.{host_sync}
+use Rattle.sig_txwatch.proofs.watching.watch.Lts.{arg-2-1}
 use Rattle.sig_txwatch.proofs.watching.watch.Goals as goal
 
-pub returns-clause-base : goal.returns-clause-base
-returns-clause-base g c = reported (λ now report. report.base.sum ≡ c.args.opening.base.sum) _ _ c.end_of.result c.end_of.ensures.gives refl
+pub attend-attended-requires-sync-H : goal.attend-attended-requires-sync-H
+attend-attended-requires-sync-H g c κs within =
+    param_sync 1 (arg-2-1 g.row.O g.row.R g.row.D g.row.A g.row.A-L g.row.A-S g.row.A-S-L g.O.laws g.R.laws g.D.laws g.A.laws g.A.L.laws g.A.S.laws g.A.S.L.laws g.O.Opened g.O.Opened-dict g.R.Threads g.R.Threads-dict g.R.Wait g.R.Wait-dict g.D.Disk g.D.Disk-dict g.A.Door g.A.Door-dict g.A.L.Link g.A.L.Link-dict g.A.L.Source g.A.L.Source-dict g.A.L.Sink g.A.L.Sink-dict g.A.S.Side g.A.S.Side-dict g.A.S.L.Link g.A.S.L.Link-dict g.A.S.L.Source g.A.S.L.Source-dict g.A.S.L.Sink g.A.S.L.Sink-dict g.A.L.Destruct-dict g.A.S.Destruct-dict κs)
+    (record { shared = λ d b o κ. (host_sync (param 2 g.row.D) (param 0 g.row.O) g.D.Disk g.O.Opened c.type_bounds.send-D c.type_bounds.send-O).shared d b o κ })
 
-pub returns-clause-history : goal.returns-clause-history
-returns-clause-history g c =
+pub returns-clause-stays : goal.returns-clause-stays
+returns-clause-stays g c =
+    let told = g.D.Disk.told in
+    of_node (λ now. told_before told now ≡ told_before told c.args.node) c.into_node-node.result c.attend-attended.result.logs (is_shut c.attend-attended.result.stop) c.end_of.result c.end_of.ensures.gives
+    (told_same _ _ _ c.into_node-node.ensures c.requires.opened)
+
+pub returns-clause-kept : goal.returns-clause-kept
+returns-clause-kept g c =
     let D = g.D.Disk in
-    reported (λ now report. IsNode D.told D.seen D.may_leave now) _ _ c.end_of.result c.end_of.ensures.gives c.end_of.ensures.kept
+    of_node (λ now. IsNode D.told D.seen D.may_leave now) c.into_node-node.result c.attend-attended.result.logs (is_shut c.attend-attended.result.stop) c.end_of.result c.end_of.ensures.gives
+    c.broken_at.ensures.kept
 
 pub returns-clause-links : goal.returns-clause-links
 returns-clause-links g c =
-    let A = g.A.Door in
-    let door = door_view A.coming A.served A.out A.place A.faults c.args.door.now in
-    let door' = door_view A.coming A.served A.out A.place A.faults c.serve_links-stop.new.door in
-    reported (WasServed g.D.Disk.told c.args.opening.rules c.end_of.result c.args.node door door') _ _ c.end_of.result c.end_of.ensures.gives
-    (why_ended g.D.Disk.told c.args.opening.rules c.serve_links-stop.result _ _ c.end_of.result c.args.node c.serve_links-stop.new.node door door' _ c.of.ensures refl c.is_shut.ensures c.serve_links-stop.ensures.watches c.end_of.ensures.ends)
-
-pub returns-clause-ends : goal.returns-clause-ends
-returns-clause-ends g c = ends_reported _ c.end_of.result c.end_of.ensures.ends
+    why_ended _ _ _ _ _ (ServesOne c.args.rules) c.into_node-node.result c.attend-attended.result.logs c.attend-attended.result.stop c.end_of.result _ _ c.end_of.ensures.gives c.attend-attended.ensures c.end_of.ensures.ends

@@ -34,7 +34,7 @@ returns-clause-answered g c =
 pub returns-clause-kept : goal.returns-clause-kept
 returns-clause-kept g c =
     let time : c.min.result ≡ time_used c.args.now = search rules in
-    let new : NodeView g.row.D.Denot = record { store = c.take_turn.new.held.store; rules = c.self.inside.rules; state = c.take_turn.new.held.outbox.sum; base = c.self.inside.base.sum; entries = c.take_turn.new.held.entries.items; turns = c.take_turn.new.held.turns.items } in
+    let new : NodeView g.row.D.Denot = record { store = c.take_turn.new.held.store; rules = c.self.inside.rules; state = c.take_turn.new.held.outbox.sum; base = c.self.inside.base.value.sum; entries = c.take_turn.new.held.entries.items; turns = c.take_turn.new.held.turns.items } in
     subst (λ (k : NodeView g.row.D.Denot). Kept k new c.args.link c.args.call.now (time_used c.args.now) c.take_turn.result) c.self.view_is
     (record {
       turns = c.take_turn.ensures.turns ∙ ap (λ (t : ℕ). with_turn c.self.inside.held.turns.items c.args.link c.args.call.now t c.take_turn.result) time;
@@ -57,6 +57,6 @@ returns-clause-refused g c =
 
 pub returns-clause-memory : goal.returns-clause-memory
 returns-clause-memory g c = λ is.
-    let old : NodeView g.row.D.Denot = record { store = c.self.inside.held.store; rules = c.self.inside.rules; state = c.self.inside.held.outbox.sum; base = c.self.inside.base.sum; entries = c.self.inside.held.entries.items; turns = c.self.inside.held.turns.items } in
+    let old : NodeView g.row.D.Denot = record { store = c.self.inside.held.store; rules = c.self.inside.rules; state = c.self.inside.held.outbox.sum; base = c.self.inside.base.value.sum; entries = c.self.inside.held.entries.items; turns = c.self.inside.held.turns.items } in
     same_node old c.take_turn.new.held.store c.take_turn.new.held.outbox.sum c.take_turn.new.held.entries.items c.take_turn.new.held.turns.items (change_of old.rules old.state c.args.call.now c.min.result) c.args.link c.args.call.now c.min.result c.take_turn.result
     is (c.take_turn.ensures.refused.memory is) c.take_turn.ensures.answered.state c.take_turn.ensures.entries c.take_turn.ensures.turns ∙ c.self.view_is

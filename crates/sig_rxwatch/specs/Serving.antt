@@ -1,0 +1,15 @@
+-- How one link of a watch is served, and what its log is compared with.
+use Rattle.std.specs.Prelude.{◌≡◌, ℕ, List, [], None}
+use Rattle.sig_rxnode.specs.declared.rules.RxRules.{RxRules}
+use Rattle.sig_threads.specs.Sights.{Sight}
+use Rattle.sig_rxlink.specs.Moment.{desk_of, moment}
+use Rattle.sig_rxlink.specs.Serving as link
+use Rattle.sig_rxlink.specs.declared.log.RxLinkLog.{RxLinkLog}
+
+-- it was served under this number from its first byte on, by these settings, and its log has its turns and its end; what the
+-- node under its lock did is told by the log alone, and its side was asked nothing
+pub record ServesOne (rules : RxRules) (number : ℕ) (log : RxLinkLog) (came left : Sight) : Type 0 where
+  pub numbered : log.link ≡ number
+  pub kept : List ℕ
+  pub serves : link.Serves rules number log.end (moment [] came.line (desk_of None [])) (moment kept left.line (desk_of None log.turns))
+  pub side : left.side ≡ came.side

@@ -1,0 +1,39 @@
+ghost use Rattle.sig_rxwatch.specs.Serving.{ServesOne};
+
+use crate::shared::{Locked, Opened, Shared};
+use sig_links::{Link, Side};
+use sig_outside::Disk;
+use sig_rxlink::{RxLinkLog, serve_link};
+use sig_rxnode::RxRules;
+use sig_threads::Host;
+use std::alloc::Global;
+use std::sync::{Mutex, Wait};
+
+/// What serves the links of a watch: the rules that it lends to each, and the node under its lock.
+pub struct RxHost<D: Disk, O: Opened> {
+    /// What links grow with.
+    pub alloc: Global,
+    /// The rules of the node.
+    pub rules: RxRules,
+    /// The node.
+    pub node: Mutex<Shared<D, O>>,
+}
+
+impl<D: Disk + Send, O: Opened> Host for RxHost<D, O> {
+    type Log = RxLinkLog;
+
+    ghost use Rattle.sig_rxwatch.specs.Serving.{ServesOne};
+
+    ghost serves = { λ h. ServesOne h.rules };
+
+    fn serve<R: Wait, L: Link, S: Side>(
+        &self,
+        rt: &R,
+        number: u32,
+        link: &mut L,
+        _side: &mut S,
+    ) -> RxLinkLog {
+        let mut taker = Locked { node: &self.node };
+        serve_link(self.alloc, rt, &mut taker, &self.rules, number, link)
+    }
+}

@@ -1,0 +1,39 @@
+ghost use Rattle.sig_txwatch.specs.Serving.{ServesOne};
+
+use crate::shared::{Locked, Opened, Shared};
+use sig_links::{Link, Side};
+use sig_outside::Disk;
+use sig_terms::Rules;
+use sig_threads::Host;
+use sig_txlink::{LinkLog, serve_link};
+use std::alloc::Global;
+use std::sync::{Mutex, Wait};
+
+/// What serves the links of a watch: the rules that it lends to each, and the node under its lock.
+pub struct TxHost<D: Disk, O: Opened> {
+    /// What links grow with.
+    pub alloc: Global,
+    /// The rules of the node.
+    pub rules: Rules,
+    /// The node.
+    pub node: Mutex<Shared<D, O>>,
+}
+
+impl<D: Disk + Send, O: Opened> Host for TxHost<D, O> {
+    type Log = LinkLog;
+
+    ghost use Rattle.sig_txwatch.specs.Serving.{ServesOne};
+
+    ghost serves = { λ h. ServesOne h.rules };
+
+    fn serve<R: Wait, L: Link, S: Side>(
+        &self,
+        rt: &R,
+        number: u32,
+        link: &mut L,
+        side: &mut S,
+    ) -> LinkLog {
+        let mut taker = Locked { node: &self.node };
+        serve_link(self.alloc, rt, &mut taker, &self.rules, number, link, side)
+    }
+}

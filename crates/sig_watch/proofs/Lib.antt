@@ -1,0 +1,2 @@
+pub mod DoorLemmas
+pub mod EndLemmas

@@ -1,0 +1,57 @@
+//! A side that dials nothing.
+
+ghost use Rattle.std.specs.Prelude.{◌≡◌};
+
+use crate::held_link::HeldLink;
+use sig_links::{FaultCount, Side};
+use sig_outside::{Failed, Place};
+use std::marker::PhantomData;
+
+/// A side to which each dial fails, and whose time stands still.
+#[derive(Drop)]
+pub struct StillSide<'a> {
+    links: PhantomData<HeldLink<'a>>,
+    faults: FaultCount,
+}
+
+impl<'a> StillSide<'a> {
+    /// A side that has met no fault.
+    pub fn new() -> StillSide<'a>
+        ensures { result.faults ≡ 0 }
+    {
+        StillSide {
+            links: PhantomData,
+            faults: FaultCount::new(),
+        }
+    }
+}
+
+impl<'a> Side for StillSide<'a> {
+    type L = HeldLink<'a>;
+
+    ghost use Rattle.std.specs.Prelude.{None, [], false};
+
+    ghost ahead = { λ s. None };
+
+    ghost times = { λ s. None };
+
+    ghost sent = { λ s. None };
+
+    ghost out = { λ s. 0 };
+
+    ghost plan = { λ l. record { bytes = []; fails = false } };
+
+    ghost faults = { λ s. s.faults };
+
+    fn dial(&mut self, _place: &Place) -> Result<HeldLink<'a>, Failed> {
+        Err(self.faults.raise())
+    }
+
+    fn now(&mut self) -> u64 {
+        1_700_000_000
+    }
+
+    fn back(&mut self, link: HeldLink<'a>) {
+        self.faults.gather(link.met());
+    }
+}
