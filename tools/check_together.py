@@ -13,7 +13,6 @@ Without a built program, or where no socket can be opened, it says that it is pa
 import http.client
 import json
 import random
-import resource
 import socket
 import sys
 import tempfile
