@@ -145,9 +145,9 @@ def check_contract(crate, cell, words):
 
 
 def wrong_bodies(crate):
-    """The names of the wrong bodies of a crate."""
-    folder = os.path.join(TOP, "crates", crate, "must-fail")
-    files = os.listdir(folder) if os.path.isdir(folder) else []
+    """The names of the wrong bodies of a crate, of those that are tried together and of those that are tried alone."""
+    folders = [os.path.join(TOP, "crates", crate, name) for name in ("wrong", "must-fail")]
+    files = [file for folder in folders if os.path.isdir(folder) for file in os.listdir(folder)]
     return sorted(file.removesuffix(".edit") for file in files if file.endswith(".edit"))
 
 
