@@ -29,8 +29,9 @@ import tempfile
 
 ROOT = pathlib.Path(__file__).resolve().parent.parent
 FUNCTION = re.compile(r"( *)(?:pub(?:\([^)]*\))? )?(?:final )?(?:unsafe )?fn (\w+)")
-# What an error says where a proof only names what the wrong body took away.
-NAMES = re.compile(r"not in scope|has no |not admitted|was not admitted")
+# What an error says where a proof only names what the wrong body took away, which says little of the contract.
+NAMES = re.compile(r"not in scope|has no |not admitted")
+ONLY_NAMES = "only since its proof names what is gone"
 
 
 def kit_script():
@@ -70,13 +71,24 @@ def opening(rows, at, indent):
 
 
 def emptied(text, wrong):
-    """The text with no body left in functions, but in those with one of these rows and where a value has to be taken apart."""
+    """The text with no body left in functions, but in those with one of these rows."""
     rows = text.split("\n")
     for name, at, opens, last in reversed([*bodies(rows)]):
-        if name not in ("drop", "main") and not any(at <= it <= last for it in wrong):
-            indent = rows[last][:-1]
-            rows[opens + 1 : last] = [f"{indent}    unreachable!()"]
+        if not keeps_body(rows, name, at) and not any(at <= it <= last for it in wrong):
+            rows[opens + 1 : last] = [rows[last][:-1] + "    unreachable!()"]
     return "\n".join(rows)
+
+
+def keeps_body(rows, name, at):
+    """Whether the function has to take a value apart, or is marked as one of several that call one another."""
+    return name in ("drop", "main") or rows[at - 1].strip().startswith("#[cycle")
+
+
+def block_around(rows, at):
+    """The head of the `impl` or `trait` in which this row stands, in one line; empty where it stands in none."""
+    begins = next((it for it in range(at, -1, -1) if re.match(r"(pub(\([^)]*\))? )?(impl|trait)\b", rows[it])), None)
+    ends = next((it for it in range(begins or 0, at) if rows[it].endswith("{")), at)
+    return " ".join(row.strip() for row in rows[begins : ends + 1]) if begins is not None else ""
 
 
 class Function:
@@ -85,32 +97,30 @@ class Function:
     def __init__(self, path, rows, at):
         self.path, self.name = path, FUNCTION.match(rows[at])[2]
         self.module = re.sub(r"(^|/)(lib|main|mod)$", "", path[len("src/") : -len(".rt")]).replace("/", "::")
-        depth = len(rows[at]) - len(rows[at].lstrip())
-        heads = (rows[it] for it in range(at, -1, -1) if len(rows[it]) - len(rows[it].lstrip()) < depth and rows[it].strip())
-        self.owner = next(heads, "") if depth else ""
+        self.owner = block_around(rows, at) if rows[at].startswith(" ") else ""
 
     def key(self):
         return self.path, self.owner, self.name
 
     def of(self):
-        """The words that name the type and the trait of the block around it, none of a function by itself."""
+        """The words that name the type and the trait of the block around it, empty ones where there is none."""
         head = self.owner
         while re.search(r"<[^<>]*>", head):
             head = re.sub(r"<[^<>]*>", "", head)
-        trait, _, kind = re.sub(r"^\s*(pub )?(impl|trait)\b", "", head.split(" where ")[0]).strip(" {").rpartition(" for ")
-        return [re.sub(r"\W", "", it.split("::")[-1].split(":")[0]) for it in (kind, trait)]
+        head = re.sub(r"^(pub(\([^)]*\))? )?(impl|trait)\b", "", re.split(r" where\b| \{", head)[0])
+        trait, _, kind = head.strip().rpartition(" for ")
+        return [re.sub(r"\W", "", it.split("::")[-1].split(":")[0]) for it in (kind, trait)] if head else ["", ""]
 
-    def asked(self):
-        """The path by which a check is asked for it: of a method of a trait its whole module."""
-        kind, trait = self.of() if self.owner else ("", "")
-        return self.module if trait else "::".join(it for it in (self.module, kind, self.name) if it)
+    def asked(self, by_module):
+        """The path by which a check is asked for it: its module's, or its own, of a method the end of that alone."""
+        return self.module if by_module and self.module else "::".join(it for it in ("".join(self.of()) or self.module, self.name) if it)
 
     def is_named(self, said):
         """Whether a check names it, or a closure in it, so."""
-        kind, trait = self.of() if self.owner else ("", "")
-        owner = rf"{kind}\w*{trait}\w*::" if kind else ""
-        start = re.escape(self.module) + "::" if self.module else ""
-        return bool(re.fullmatch(rf"{start}({owner}{self.name}|(\w+::)*fn::({owner})?{self.name}::.*)(\+.*)?", said))
+        kind, trait = self.of()
+        start = rf"(\w+::)*{kind}\w*{trait}\w*::" if kind else re.escape(self.module) + "::" if self.module else ""
+        inner = rf"{re.escape(self.module)}::fn::(\w+::)*{self.name}::.*"
+        return bool(re.fullmatch(rf"{start}{self.name}|{inner}", said))
 
 
 class Wrong:
@@ -120,9 +130,6 @@ class Wrong:
         self.file, self.label = file, f"{crate.name}/{os.path.basename(file)}"
         self.texts, self.why = rt.read_edit(file, crate.folder)
         self.functions = [] if self.why else functions_of(pathlib.Path(file).read_text(), crate.folder)
-
-    def asked(self):
-        return [it.asked() for it in self.functions]
 
 
 def functions_of(edit, folder):
@@ -136,6 +143,8 @@ def functions_of(edit, folder):
             old = line[len("old: ") :]
             place = next((it for it, row in enumerate(rows) if old in row), None)
             around = [at for _, at, _, last in bodies(rows) if place is not None and at <= place <= last]
+            if old.startswith("use "):
+                continue
             if not path.startswith("src/") or not around:
                 return []
             made = Function(path, rows, around[-1])
@@ -183,9 +192,9 @@ def refusals(said, name):
         errors = re.findall(rf"(?m)^(?:\./)?proofs/{folder}/\S+: error: (.*)$", said)
         own = [one for one in errors if not NAMES.search(one)]
         if "expected answers" in it[3]:
-            found[it[1]] = re.sub(r"^expected answers in \S+; ", "", it[3])
-        elif own:
-            found[it[1]] = own[0]
+            found[it[1]] = re.sub(r"^expected answers in \S+; |; it (calls|passes) .*", "", it[3])
+        elif errors:
+            found[it[1]] = own[0] if own else f"{ONLY_NAMES}: {errors[0]}"
     return found
 
 
@@ -193,11 +202,17 @@ def compiles(ran):
     return ran.returncode in (1, 3) and not re.search(r"(?m)\berror\[[\w-]+\]", ran.stdout)
 
 
+def checked(crate, texts, taken, by_module):
+    asked = sorted({function.asked(by_module) for it in taken for function in it.functions})
+    return rt.checked(crate, texts, ["--jobs", "1", *[word for it in asked for word in ("--only", it)]], None)
+
+
 def try_round(crate, tried, is_control):
     """What a round says of each wrong body that could be put into it: how it was refused by itself, or None."""
     texts, taken = together(crate, tried, is_control)
-    asked = sorted({one for it in taken for one in it.asked()})
-    ran = rt.checked(crate, texts, ["--jobs", "1", *[word for it in asked for word in ("--only", it)]], None)
+    ran = checked(crate, texts, taken, False)
+    if ran.returncode == 2:
+        ran = checked(crate, texts, taken, True)
     if not compiles(ran) and len(taken) > 1:
         half = len(taken) // 2
         return {**try_round(crate, taken[:half], is_control), **try_round(crate, taken[half:], is_control)}
@@ -205,7 +220,7 @@ def try_round(crate, tried, is_control):
     for said, why in refusals(ran.stdout, crate.name).items() if compiles(ran) else ():
         for wrong in taken:
             if not found[wrong] and any(it.is_named(said) for it in wrong.functions):
-                found[wrong] = f"{said}: {why[:110]}"
+                found[wrong] = f"{said}: {why[:150]}"
     return found
 
 
@@ -331,10 +346,10 @@ def main(words):
         rows, lacking = try_all(names, "--anew" in words, "--control" in words)
         os.chdir(ROOT)
     used = resource.getrusage(resource.RUSAGE_CHILDREN)
-    failed, old = sum(not it[1] for it in rows), sum(it[3] for it in rows)
+    failed, old, weak = (sum(it) for it in zip(*((not row[1], row[3], ONLY_NAMES in row[2]) for row in rows), (0, 0, 0)))
     for it in lacking:
         print(f"{it}: NOT TRIED: it, or a library below it, isn't proved as it stands: run rt ci first")
-    print(f"wrong bodies: {len(rows) - failed} refused, {old} of them by an earlier run; {failed} not refused; {(used.ru_utime + used.ru_stime) / 60:.1f} processor minutes")
+    print(f"wrong bodies: {len(rows) - failed} refused, {old} of them by an earlier run and {weak} {ONLY_NAMES}; {failed} not refused; {(used.ru_utime + used.ru_stime) / 60:.1f} processor minutes")
     return 1 if failed or lacking else 0
 
 
