@@ -1,12 +1,11 @@
 #!/usr/bin/env python3
 """Stops each line of a script at each call of a disk, with each of three fills, and compares what is printed with the model.
 
-`check_stops.py [PROGRAM]` takes the built program, and `crates/signals/out/signals` where none is given. For each line by which
+`check_stops.py [PROGRAM]` takes the built program, by `served.program_path`. For each line by which
 an end acts, each node, each number of calls from 0 to 4 and the fills 00, 5a and ff it runs the script with that line stopped so.
 What must be printed, and so what must be kept, is worked out by `replay_model.py`, which was written from the documents alone.
 `check_stops.py script` prints the script itself.
 """
-import os
 import subprocess
 import sys
 from concurrent.futures import ThreadPoolExecutor
@@ -14,8 +13,8 @@ from concurrent.futures import ThreadPoolExecutor
 sys.dont_write_bytecode = True
 import replay_model
 from script_cases import FOLDER, spelled
+from served import program_path
 
-TOP = os.path.join(os.path.dirname(os.path.abspath(__file__)), "..")
 SCRIPT = FOLDER / "every_stop.txt"
 FILLS = ["00", "5a", "ff"]
 
@@ -47,9 +46,8 @@ def main():
     if sys.argv[1:] == ["script"]:
         print("\n".join(lines_of(SCRIPT)))
         return
-    program = os.path.abspath(sys.argv[1]) if sys.argv[1:] else os.path.join(TOP, "crates", "signals", "out", "signals")
-    if not os.access(program, os.X_OK):
-        print(f"passed over: no program is built at {os.path.relpath(program, TOP)}")
+    program = program_path()
+    if program is None:
         return
     scripts = list(variants(lines_of(SCRIPT)))
     with ThreadPoolExecutor(4) as pool:

@@ -27,12 +27,19 @@ def free_port():
         return found.getsockname()[1]
 
 
+def program_path():
+    """The program that the first word or else SIGNALS_PROGRAM names, or the proved one, where that is built here."""
+    named = sys.argv[1] if len(sys.argv) > 1 else os.environ.get("SIGNALS_PROGRAM")
+    program = os.path.abspath(named) if named else os.path.join(TOP, "crates/signals/out/signals")
+    if os.access(program, os.X_OK):
+        return program
+    print(f"passed over: no program is built at {os.path.relpath(program, TOP)}")
+    return None
+
+
 def built_program():
-    """The program that the first word names, or the one that is built here; where there is none, or no socket can be opened, nothing."""
-    program = os.path.abspath(sys.argv[1]) if len(sys.argv) > 1 else os.path.join(TOP, "crates/signals/out/signals")
-    if not os.access(program, os.X_OK):
-        print(f"passed over: no program is built at {os.path.relpath(program, TOP)}")
-        return None
+    """The program, where a socket can be opened here too."""
+    program = program_path()
     try:
         free_port()
     except OSError:
