@@ -1,7 +1,7 @@
 #!/usr/bin/env bash
 # The tokens of the examples and of the cases are those that the signing script makes, and each example prints the text
 # beside it, which was worked out by hand.
-set -eu
+set -eu -o pipefail
 cd "$(dirname "$0")/.."
 python3 -B tools/sign_fold.py examples | cmp - examples/tokens.txt
 python3 -B tools/sign_fold.py guard | cmp - crates/sig_guard/stdin
@@ -12,19 +12,16 @@ for script in replay streams first; do
 done
 python3 -B tools/cases_expected.py check
 
-folder=$(mktemp -d)
-trap 'rm -rf "$folder"' EXIT
+# The program that SIGNALS_PROGRAM names, or the proved one where it is built, or else the same sources without proofs.
+program=${SIGNALS_PROGRAM:-crates/signals/out/signals}
+[ -x "$program" ] || program=$(python3 -B tools/unproved.py signals)
 
-add_case() { # EXAMPLE WORDS..
-    cp "examples/$1.txt" "$folder/$1"
-    cp "examples/$1.out.txt" "$folder/$1.stdout"
-    printf '%s\n' "${@:2}" >"$folder/$1.args"
+check_example() { # EXAMPLE WORDS..
+    "$program" "${@:2}" <"examples/$1.txt" | cmp - "examples/$1.out.txt"
 }
 
-add_case tokens fold https://idp.example https://rp.example MDEyMzQ1Njc4OWFiY2RlZjAxMjM0NTY3ODlhYmNkZWY
-add_case replay replay
-add_case streams replay
-add_case first replay
-# `rt try` runs the program without proving it again.
-cd crates/signals
-rt try --cases "$folder"
+check_example tokens fold https://idp.example https://rp.example MDEyMzQ1Njc4OWFiY2RlZjAxMjM0NTY3ODlhYmNkZWY
+for script in replay streams first; do
+    check_example "$script" replay
+done
+echo 'examples: each prints what stands beside it'
