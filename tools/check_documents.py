@@ -91,13 +91,13 @@ def without_space(text):
 
 
 def check_help(text):
-    """The script's help has the commands that the program knows, and the two words of the script."""
+    """The script's help has the commands that the program knows, and the three words of the script."""
     told = re.findall(r"^\./signals (\S+)", text, re.M)
     paths = [f"crates/{crate}/src/{file}.rt" for crate in crates() for file in ("command", "asking")]
     sources = [text_of(path) for path in paths if os.path.exists(os.path.join(TOP, path))]
     known = re.findall(r'\bname(?:\.as_str\(\))? [!=]= "(\w+)"|"(\w+)" => Some\(Server::', "".join(sources))
     known = [one or other for one, other in known]
-    if sorted(told) != sorted(known + ["--unproved", "help"]):
+    if sorted(told) != sorted(known + ["--unproved", "help", "test"]):
         tell("signals", f"its help has {told}, and the program knows {known}")
 
 
