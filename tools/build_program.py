@@ -25,6 +25,8 @@ from unproved import TOP, at_once, kit, tell
 PARTS = ("src", "specs", "proofs")
 PROGRAM = "signals"
 NOT_PROVED = 70
+# The memory that a build may take, in bytes.
+ROOM = 4_000_000_000
 
 
 def loaded_rt():
@@ -126,7 +128,7 @@ def build_libraries(rt, names):
     for crate in asked:
         crates += [it for it in [*crate.below(), crate] if it not in crates and it.makes_rlib()]
     held = rt.rtlib.lock([*crates, *asked])
-    lacking, lanes = [it for it in crates if not it.is_built()], at_once()
+    lacking, lanes = [it for it in crates if not it.is_built()], at_once(ROOM)
     tell(f"proving and building {len(lacking)} of {len(crates)} libraries, {lanes} at once; ./signals --unproved runs without proofs")
     Build(lacking, lanes).run()
     for it in held:
