@@ -80,8 +80,8 @@ def is_subject(value):
 
 
 def same(one, two):
-    """Equal JSON values: true and 1 differ, as in their texts."""
-    return dump(one) == dump(two)
+    """Equal JSON values: true and 1 differ, as in their texts, which only values that Python takes for equal have alike."""
+    return one == two and dump(one) == dump(two)
 
 
 def parts_of(subject):
