@@ -29,7 +29,7 @@ import tempfile
 
 ROOT = pathlib.Path(__file__).resolve().parent.parent
 FUNCTION = re.compile(r"( *)(?:pub(?:\([^)]*\))? )?(?:final )?(?:unsafe )?fn (\w+)")
-# What an error says where a proof only names what the wrong body took away, which says little of the contract.
+# What an error says where a proof names what isn't there. Where the wrong body took it away, that says little of the contract.
 NAMES = re.compile(r"not in scope|has no |not admitted")
 ONLY_NAMES = "only since its proof names what is gone"
 
@@ -117,10 +117,18 @@ class Function:
 
     def is_named(self, said):
         """Whether a check names it, or a closure in it, so."""
+        start = re.escape(self.module) + "::" if self.module else ""
+        if not self.owner:
+            return bool(re.fullmatch(rf"{start}({self.name}|fn::{self.name}::.*)", said))
+        # (a method is named by its type and what it is a method of, and a trait's parameters stand last)
         kind, trait = self.of()
-        start = rf"(\w+::)*{kind}\w*{trait}\w*::" if kind else re.escape(self.module) + "::" if self.module else ""
-        inner = rf"{re.escape(self.module)}::fn::(\w+::)*{self.name}::.*"
-        return bool(re.fullmatch(rf"{start}{self.name}|{inner}", said))
+        owner = kind[:1].upper() + kind[1:] + (rf"{trait}\w*" if trait else "")
+        return bool(re.fullmatch(rf"(\w+::)*{owner}::{self.name}|{start}(\w+::)*fn::(\w+::)*{self.name}::.*", said))
+
+    def named_by(self, said):
+        """What a check says of it and of the closures in it; none where it is not the only function that may be named so."""
+        found = [it for it in said if self.is_named(it)]
+        return found if sum("fn::" not in it for it in found) == 1 else []
 
 
 class Wrong:
@@ -192,9 +200,14 @@ def refusals(said, name):
         errors = re.findall(rf"(?m)^(?:\./)?proofs/{folder}/\S+: error: (.*)$", said)
         own = [one for one in errors if not NAMES.search(one)]
         if "expected answers" in it[3]:
-            found[it[1]] = re.sub(r"^expected answers in \S+; |; it (calls|passes) .*", "", it[3])
-        elif errors:
-            found[it[1]] = own[0] if own else f"{ONLY_NAMES}: {errors[0]}"
+            goals = re.sub(r"^expected answers in \S+; |; it (calls|passes) .*", "", it[3])
+            # (which a body that was taken away leaves open)
+            if goals != "`search` did not prove `unreachable-requires`":
+                found[it[1]] = goals
+        elif own:
+            found[it[1]] = own[0]
+        elif gone := [one for one in errors if f"proofs.{it[1].replace('::', '.')}." in one]:
+            found[it[1]] = f"{ONLY_NAMES}: {gone[0]}"
     return found
 
 
@@ -216,12 +229,16 @@ def try_round(crate, tried, is_control):
     if not compiles(ran) and len(taken) > 1:
         half = len(taken) // 2
         return {**try_round(crate, taken[:half], is_control), **try_round(crate, taken[half:], is_control)}
-    found = dict.fromkeys(taken)
-    for said, why in refusals(ran.stdout, crate.name).items() if compiles(ran) else ():
-        for wrong in taken:
-            if not found[wrong] and any(it.is_named(said) for it in wrong.functions):
-                found[wrong] = f"{said}: {why[:150]}"
-    return found
+    if not compiles(ran):
+        return dict.fromkeys(taken)
+    every, own = re.findall(rf"(?m)^fn {crate.name}::(\S+): ", ran.stdout), refusals(ran.stdout, crate.name)
+    return {it: refusal(it, every, own) for it in taken}
+
+
+def refusal(wrong, every, own):
+    """How a round refused this wrong body by itself, by the functions that it names and those that it refuses; or None."""
+    named = [it for function in wrong.functions for it in function.named_by(every) if it in own]
+    return f"{named[0]}: {own[named[0]][:150]}" if named else None
 
 
 def try_rounds(crate, left, is_control):
