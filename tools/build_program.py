@@ -30,12 +30,13 @@ ROOM = 4_000_000_000
 
 
 def loaded_rt():
-    """The kit's command rt as a module, whose commands share what they keep with the other checkouts of this machine."""
+    """The kit's command rt as a module. Where the kit can, its commands share what they keep with the other checkouts of this machine."""
     loader = importlib.machinery.SourceFileLoader("rt", os.path.join(kit(), "bin/rt"))
     rt = importlib.util.module_from_spec(importlib.util.spec_from_loader("rt", loader))
     sys.modules["rt"] = rt
     loader.exec_module(rt)
-    rt.share_work(True)
+    if hasattr(rt, "share_work"):
+        rt.share_work(True)
     # so that all that is begun ends with this program, however it ends
     rt.rtlib.guarded()
     return rt

@@ -54,9 +54,9 @@ def kind_of(process, words, parents):
         return None
     if "rt-edit" in folder or any("try_wrong_bodies" in word for it in parents for word in words_of(it)):
         return "bodies"
-    if "--backend" in words:
-        return "programs"
-    return "tests" if "--test" in words else "proofs"
+    if "--test" in words:
+        return "tests"
+    return "programs" if "--backend" in words else "proofs"
 
 
 class Watch:
