@@ -5,7 +5,7 @@ use sig_json::{Copied, Memory, Text, copy_optional};
 use std::alloc::Global;
 
 /// A token that a stream owes, in small: its claims are computed where it is offered.
-#[derive(PartialEq, Eq, Drop)]
+#[derive(Drop)]
 pub struct Debt {
     /// Its number among the tokens of its stream.
     pub number: u64,
@@ -16,7 +16,7 @@ pub struct Debt {
 }
 
 /// What a token says.
-#[derive(PartialEq, Eq, Drop)]
+#[derive(Drop)]
 pub enum Said {
     /// What was published, by its place among all that was, from 0.
     Published {

@@ -16,7 +16,6 @@ use sig_json::{
 use std::alloc::Global;
 
 /// The members that every event of CAEP may have (CAEP 1.0, section 2).
-#[derive(PartialEq, Eq)]
 pub struct Common {
     /// When the event happened, in whole seconds since 1970.
     pub event_timestamp: Option<i128>,

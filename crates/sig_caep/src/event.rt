@@ -10,7 +10,6 @@ use sig_json::{Copied, Memory, PayloadFault, Same, value_named};
 use std::alloc::Global;
 
 /// An event of CAEP (CAEP 1.0, sections 2 and 3).
-#[derive(PartialEq, Eq)]
 pub struct CaepEvent {
     /// The members that every event may have.
     pub common: Common,

@@ -6,7 +6,6 @@ use sig_json::{Copied, Memory, Same, Text, copy_optional};
 use std::alloc::Global;
 
 /// An event of CAEP by its type, without the members that every type may have.
-#[derive(PartialEq, Eq)]
 pub enum CaepKind {
     /// The session was revoked (CAEP 1.0, section 3.1).
     SessionRevoked,

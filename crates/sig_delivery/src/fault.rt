@@ -4,7 +4,7 @@ use sig_json::{MemoryRefusal, Text};
 use thiserror::Error;
 
 /// Why a body says nothing. The first member that is wrong decides.
-#[derive(Debug, PartialEq, Eq, Drop, Error)]
+#[derive(Debug, Drop, Error)]
 pub enum BodyFault {
     /// This member is missing or of another kind than it has to be; it is `body` where the body is no JSON object.
     #[error("a member is missing or wrong")]

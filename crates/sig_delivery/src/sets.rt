@@ -12,7 +12,7 @@ use sig_json::{Bytes, Copied, Items, Memory, Same, Text, Value, copy_items};
 use std::alloc::Global;
 
 /// A token that a poll response hands out.
-#[derive(PartialEq, Eq, Drop)]
+#[derive(Drop)]
 pub struct Listed {
     /// The identifier under which it stands.
     pub jti: Text,
@@ -21,7 +21,7 @@ pub struct Listed {
 }
 
 /// What a poll response hands out (RFC 8936, section 2.5).
-#[derive(PartialEq, Eq, Drop)]
+#[derive(Drop)]
 pub struct Sets {
     /// The tokens, in byte order of their identifiers.
     pub tokens: Items<Listed>,

@@ -6,7 +6,7 @@ use sig_subject::Subject;
 use std::alloc::Global;
 
 /// What a security event token says (RFC 8417, section 2.2).
-#[derive(PartialEq, Eq, Drop)]
+#[derive(Drop)]
 pub struct Claims {
     /// Who issued it.
     pub iss: Text,

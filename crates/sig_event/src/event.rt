@@ -9,7 +9,6 @@ use sig_risc::RiscEvent;
 use std::alloc::Global;
 
 /// A security event (RFC 8417, section 1.2).
-#[derive(PartialEq, Eq)]
 pub enum Event {
     /// An event of CAEP (CAEP 1.0, section 3).
     Caep(CaepEvent),

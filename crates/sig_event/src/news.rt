@@ -6,7 +6,7 @@ use sig_subject::Subject;
 use std::alloc::Global;
 
 /// What a publication says and a token tells: an event about a subject (RFC 8417, section 1.2).
-#[derive(PartialEq, Eq, Drop)]
+#[derive(Drop)]
 pub struct News {
     /// Whom it is about (RFC 9493).
     pub subject: Subject,

@@ -2,7 +2,7 @@ use sig_json::{MemoryRefusal, Text};
 use thiserror::Error;
 
 /// Why a fetch ended before its last round. What was taken until then stays.
-#[derive(Debug, PartialEq, Eq, Drop, Error)]
+#[derive(Debug, Drop, Error)]
 pub enum FetchFault {
     /// The peer is `https`, and there is no gateway to it. Nothing is dialled.
     #[error("there is no gateway to the peer")]

@@ -48,7 +48,7 @@ pub enum SendFault {
 }
 
 /// Why the routes of a server refuse a request that was read.
-#[derive(Debug, PartialEq, Drop)]
+#[derive(Debug, Drop)]
 pub enum HttpRefusal {
     /// No route has this path (RFC 9110, section 15.5.5).
     Path,

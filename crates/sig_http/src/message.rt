@@ -72,7 +72,7 @@ impl Drop for Response {
 }
 
 /// What a reader of requests gives.
-#[derive(PartialEq, Drop)]
+#[derive(Drop)]
 pub enum Got {
     /// The next request.
     Request(Request),

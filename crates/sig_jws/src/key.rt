@@ -11,7 +11,7 @@ use std::alloc::Global;
 use std::fmt;
 
 /// A key that tokens are signed under. What is printed of it for debugging leaves its bytes out.
-#[derive(PartialEq, Eq, Drop)]
+#[derive(Drop)]
 pub struct Key {
     /// Its name, which a token's header gives as `kid` (RFC 7515, section 4.1.4), where it has one.
     pub kid: Option<Text>,

@@ -116,7 +116,7 @@ pub fn publication_in(alloc: Global, body: &Value) -> Result<Call, HttpRefusal>
 }
 
 /// The status to which a stream is set, and why (OpenID Shared Signals Framework 1.0, section 8.1.2.2).
-#[derive(PartialEq, Drop)]
+#[derive(Drop)]
 pub struct StatusSaid {
     pub stream: Text,
     pub status: Status,

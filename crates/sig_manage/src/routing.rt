@@ -15,7 +15,7 @@ use sig_terms::{Call, Rules};
 use std::alloc::Global;
 
 /// What a request asks of the transmitter.
-#[derive(PartialEq, Eq, Drop)]
+#[derive(Drop)]
 pub enum Routed {
     /// This call.
     Call(Call),

@@ -2,7 +2,7 @@
 
 use crate::receiver::rules;
 use sig_inbox::Seen;
-use sig_json::{Memory, Text};
+use sig_json::{Memory, Same, Text};
 use sig_rxnode::{RxAnswer, RxCall, RxState, RxTurn};
 use sig_sessions::Table;
 use sig_terms::Call;
@@ -18,7 +18,7 @@ fn is_turn_copied(alloc: Global) -> Result<bool, Memory> {
         now: 1,
         result: Err(TxFault::Store),
     };
-    Ok(turn.copy(alloc)? == turn)
+    Ok(turn.copy(alloc)?.same(&turn))
 }
 
 fn is_receivers_turn_copied(alloc: Global) -> Result<bool, Memory> {
@@ -27,7 +27,7 @@ fn is_receivers_turn_copied(alloc: Global) -> Result<bool, Memory> {
         call: RxCall::Rows { from: 1 },
         result: Ok(RxAnswer::Accepted),
     };
-    Ok(turn.copy(alloc)? == turn)
+    Ok(turn.copy(alloc)?.same(&turn))
 }
 
 #[test]
@@ -40,7 +40,7 @@ fn turns_are_copied(rt: HostRuntime) -> Result<(), Fail> {
 // Settings with a principal and a peer, who are copied too.
 fn are_rules_copied(alloc: Global) -> Result<bool, Memory> {
     let rules = rules(alloc)?;
-    Ok(rules.copy(alloc)? == rules)
+    Ok(rules.copy(alloc)?.same(&rules))
 }
 
 fn is_state_copied(alloc: Global) -> Result<bool, Memory> {
@@ -48,7 +48,8 @@ fn is_state_copied(alloc: Global) -> Result<bool, Memory> {
         seen: Seen::new(alloc),
         table: Table::new(alloc),
     };
-    Ok(state.copy()? == state)
+    let copy = state.copy()?;
+    Ok(copy.seen == state.seen && copy.table == state.table)
 }
 
 #[test]

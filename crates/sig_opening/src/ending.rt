@@ -7,7 +7,7 @@ use sig_json::Text;
 use sig_logs::Differ;
 
 /// How the serving of a store ended, be it a transmitter's or a receiver's.
-#[derive(PartialEq, Eq, Drop)]
+#[derive(Drop)]
 pub enum ServeEnd {
     /// As many watches ran as were asked for, or a watch reports that its door is shut.
     Done,

@@ -6,7 +6,7 @@ use sig_json::Text;
 use sig_settings::SettingsFault;
 
 /// Why no settings were read.
-#[derive(Debug, PartialEq, Eq, Drop)]
+#[derive(Debug, Drop)]
 pub enum Unread {
     /// They couldn't be opened, or reading them failed. The outside counted it as a fault of the settings.
     Failed,

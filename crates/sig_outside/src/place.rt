@@ -4,7 +4,7 @@ use sig_json::{Memory, Text};
 use std::alloc::Global;
 
 /// Where a link leads: a host and a port.
-#[derive(PartialEq, Eq, Drop)]
+#[derive(Drop)]
 pub struct Place {
     /// The name or the address of the host, as a URL has it.
     pub host: Text,

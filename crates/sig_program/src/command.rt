@@ -6,7 +6,7 @@ use sig_jws::key_of;
 use std::alloc::Global;
 
 /// What the words of the command line ask for. It holds a key, and so has no `Debug` that would print it.
-#[derive(PartialEq, Eq, Drop)]
+#[derive(Drop)]
 pub enum Command {
     /// Judges each line of the input as a token, and prints the verdicts and then the session table.
     Fold {

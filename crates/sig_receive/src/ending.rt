@@ -7,7 +7,7 @@ use sig_json::Text;
 use sig_opening::Unread;
 
 /// How a fetch ended.
-#[derive(PartialEq, Eq, Drop)]
+#[derive(Drop)]
 pub enum FetchEnd {
     /// As many rounds were made as were asked for, or the last one listed no token.
     Done(Fetched),

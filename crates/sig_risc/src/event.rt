@@ -6,7 +6,6 @@ use sig_json::{Copied, Memory, Same, Text, copy_optional};
 use std::alloc::Global;
 
 /// An event of RISC (RISC 1.0, section 2).
-#[derive(PartialEq, Eq)]
 pub enum RiscEvent {
     /// The account's credential has to be changed (section 2.1).
     CredentialChangeRequired,

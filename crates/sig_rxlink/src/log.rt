@@ -7,7 +7,7 @@ use sig_serving::LinkEnd;
 use std::alloc::Global;
 
 /// What a link came to.
-#[derive(PartialEq, Drop)]
+#[derive(Drop)]
 pub struct RxLinkLog {
     /// The number of the link.
     pub link: u32,

@@ -8,7 +8,7 @@ use sig_set::{Code, Spot};
 use std::alloc::Global;
 
 /// What the receiver answers to a call.
-#[derive(PartialEq, Drop)]
+#[derive(Drop)]
 pub enum RxAnswer {
     /// The token is valid and new: it stands in the journal from now on, and has had its effect.
     Accepted,

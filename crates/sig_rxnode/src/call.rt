@@ -5,7 +5,7 @@ use sig_subject::Subject;
 use std::alloc::Global;
 
 /// A call at the receiver.
-#[derive(PartialEq, Drop)]
+#[derive(Drop)]
 pub enum RxCall {
     /// A token comes (RFC 8935, section 2; RFC 8936, section 2.4).
     Token {

@@ -7,7 +7,7 @@ use sig_terms::Endpoint;
 use std::alloc::Global;
 
 /// Who may push tokens, and for whom.
-#[derive(PartialEq, Drop)]
+#[derive(Drop)]
 pub struct Principal {
     /// The bearer token that it shows (RFC 6750, section 2.1).
     pub bearer: Text,
@@ -16,7 +16,6 @@ pub struct Principal {
 }
 
 /// A transmitter whose tokens are fetched.
-#[derive(PartialEq)]
 pub struct Peer {
     /// Where it is polled.
     pub endpoint: Endpoint,
@@ -44,7 +43,6 @@ impl Drop for Peer {
 }
 
 /// The settings of a receiver.
-#[derive(PartialEq)]
 pub struct RxRules {
     /// Whom it trusts.
     pub trust: Trust,

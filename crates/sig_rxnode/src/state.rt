@@ -5,7 +5,7 @@ use sig_json::Memory;
 use sig_sessions::Table;
 
 /// What a receiver keeps: the pairs of the tokens that it took, and the session table that they made.
-#[derive(PartialEq, Drop)]
+#[derive(Drop)]
 pub struct RxState {
     /// The pairs, in order.
     pub seen: Seen,

@@ -6,7 +6,7 @@ use sig_logs::LinkTurn;
 use std::alloc::Global;
 
 /// A call as a node took it, and its answer.
-#[derive(PartialEq, Drop)]
+#[derive(Drop)]
 pub struct RxTurn {
     /// The number of the link that made it.
     pub link: u32,

@@ -17,7 +17,7 @@ use sig_settings::{AnyText, BearerText, PlaceText, SettingsFault, needed, option
 use std::alloc::Global;
 
 /// What the settings of a receiver say.
-#[derive(PartialEq, Drop)]
+#[derive(Drop)]
 pub struct RxSettings {
     /// What it judges and answers by.
     pub rules: RxRules,

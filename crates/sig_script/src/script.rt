@@ -24,7 +24,7 @@ use std::alloc::Global;
 use std::str;
 
 /// What an end does by a line.
-#[derive(PartialEq, Eq, Drop)]
+#[derive(Drop)]
 pub enum ScriptAct {
     /// A line that makes a call at the transmitter: `create`, `patch`, `put`, `delete`, `status`, `operator`, `add`,
     /// `remove`, `verify`, `publish`, `poll` or `hand`.
@@ -45,7 +45,7 @@ pub enum ScriptAct {
 }
 
 /// A line of a script.
-#[derive(PartialEq, Eq, Drop)]
+#[derive(Drop)]
 pub enum ScriptLine {
     /// An empty line or a comment: it is passed over.
     Skipped,

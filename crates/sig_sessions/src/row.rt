@@ -10,7 +10,6 @@ use sig_subject::Subject;
 use std::alloc::Global;
 
 /// A row of the session table: a subject, and what is known of it.
-#[derive(PartialEq)]
 pub struct Row {
     /// Whom it is about.
     pub subject: Subject,

@@ -5,7 +5,6 @@ use sig_jws::Key;
 use std::alloc::Global;
 
 /// An issuer whose tokens are taken, with the keys that it signs with.
-#[derive(PartialEq)]
 pub struct Issuer {
     /// Its name, compared byte for byte with a token's `iss`.
     pub iss: Text,
@@ -22,7 +21,6 @@ impl Drop for Issuer {
 }
 
 /// Whom a receiver trusts.
-#[derive(PartialEq)]
 pub struct Trust {
     /// The receiver's own name, which a token's `aud` has to have.
     pub audience: Text,

@@ -4,7 +4,7 @@ use sig_json::{MemoryRefusal, Text};
 use thiserror::Error;
 
 /// Why settings are none. The first member that is missing or wrong decides.
-#[derive(Debug, PartialEq, Eq, Drop, Error)]
+#[derive(Debug, Drop, Error)]
 pub enum SettingsFault {
     /// This member is missing or wrong. It is `length` where there are too many bytes, and `body` where they spell no JSON
     /// object.

@@ -4,7 +4,7 @@ use sig_json::{MemoryRefusal, Text};
 use thiserror::Error;
 
 /// Why a body is no publication.
-#[derive(Debug, PartialEq, Eq, Drop, Error)]
+#[derive(Debug, Drop, Error)]
 pub enum PublishFault {
     /// The first of `publish_id`, `sub_id` and `events` that is missing or wrong; `body` where the body is no object.
     #[error("a member is missing or wrong")]

@@ -4,7 +4,7 @@ use sig_json::{MemoryRefusal, Text};
 use thiserror::Error;
 
 /// Why a body says nothing that may be wanted of a stream. The first member that is wrong decides.
-#[derive(Debug, PartialEq, Eq, Drop, Error)]
+#[derive(Debug, Drop, Error)]
 pub enum WantFault {
     /// This member is of another kind than it has to be; it is `body` where the body is no object.
     #[error("a member is of another kind")]

@@ -5,7 +5,6 @@ use sig_json::{Copied, Items, Memory, Same, copy_items};
 use std::alloc::Global;
 
 /// A subject identifier that is no complex one.
-#[derive(PartialEq, Eq)]
 pub enum Simple {
     /// One identifier.
     Plain(Plain),

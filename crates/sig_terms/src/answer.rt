@@ -8,7 +8,6 @@ use sig_json::{Copied, Items, Memory, Same, Text, copy_items};
 use std::alloc::Global;
 
 /// What the transmitter answers to a call.
-#[derive(PartialEq, Eq)]
 pub enum Answer {
     /// What the transmitter offers is told from its rules.
     Meta,

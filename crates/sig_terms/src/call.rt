@@ -9,7 +9,6 @@ use sig_subject::Subject;
 use std::alloc::Global;
 
 /// A call at the transmitter.
-#[derive(PartialEq, Eq)]
 pub enum Call {
     /// Somebody reads what the transmitter offers (Shared Signals Framework 1.0, section 7.1).
     Metadata,
@@ -260,7 +259,7 @@ impl Drop for Call {
 }
 
 /// What a poll asks and tells (RFC 8936, section 2.4).
-#[derive(PartialEq, Eq, Drop)]
+#[derive(Drop)]
 pub struct PollAsk {
     /// How many tokens it takes at most; none given takes as many as a page has.
     pub max: Option<u64>,
@@ -271,7 +270,7 @@ pub struct PollAsk {
 }
 
 /// A token that a receiver refuses (RFC 8936, section 2.6).
-#[derive(PartialEq, Eq, Drop)]
+#[derive(Drop)]
 pub struct Reported {
     /// The token's identifier.
     pub jti: Text,
@@ -280,7 +279,7 @@ pub struct Reported {
 }
 
 /// What became of a token that was brought to its receiver.
-#[derive(PartialEq, Eq, Drop)]
+#[derive(Drop)]
 pub enum Outcome {
     /// It was taken.
     Accepted,

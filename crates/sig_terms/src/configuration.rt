@@ -7,7 +7,6 @@ use std::alloc::Global;
 
 /// The configuration of a stream (Shared Signals Framework 1.0, section 8.1.1). Its issuer, audience, interval and
 /// default subjects are those that the transmitter had when the stream was made.
-#[derive(PartialEq, Eq)]
 pub struct StreamConf {
     /// The stream's name: its client's name, a hyphen, and its number among that client's streams, from 1.
     pub stream: Text,

@@ -5,7 +5,7 @@ use sig_outside::Place;
 use std::alloc::Global;
 
 /// Where the tokens of a push stream are sent: what a URL says (RFC 8935, section 2; RFC 3986, section 3).
-#[derive(PartialEq, Eq, Drop)]
+#[derive(Drop)]
 pub struct Endpoint {
     /// Whether it is `https`.
     pub secure: bool,

@@ -9,7 +9,7 @@ use sig_subject::Subject;
 use std::alloc::Global;
 
 /// What happened at a transmitter: an item of its history.
-#[derive(PartialEq, Eq, Drop)]
+#[derive(Drop)]
 pub enum Fact {
     /// A stream was made.
     Created {
@@ -160,7 +160,7 @@ impl Same for Fact {
 }
 
 /// A token that is owed no more.
-#[derive(PartialEq, Eq, Drop)]
+#[derive(Drop)]
 pub struct SettledItem {
     /// Its number among the tokens of its stream.
     pub number: u64,

@@ -7,7 +7,6 @@ use sig_outside::Place;
 use std::alloc::Global;
 
 /// A client of the transmitter: a receiver that may have streams.
-#[derive(PartialEq)]
 pub struct Client {
     /// Its name, 1 to 32 of `a-z` and `0-9`.
     pub name: Text,
@@ -46,7 +45,6 @@ impl Copied for Client {
 }
 
 /// The settings of a transmitter.
-#[derive(PartialEq)]
 pub struct Rules {
     /// Who makes the tokens.
     pub issuer: Text,

@@ -6,7 +6,6 @@ use sig_json::{Copied, Memory, Same, Text, copy_optional};
 use std::alloc::Global;
 
 /// A token that a stream owes.
-#[derive(PartialEq, Eq)]
 pub struct Token {
     /// The name of its stream.
     pub stream: Text,
@@ -37,7 +36,7 @@ impl Drop for Token {
 }
 
 /// A token that a publication made.
-#[derive(PartialEq, Eq, Drop)]
+#[derive(Drop)]
 pub struct Issued {
     /// The name of its stream.
     pub stream: Text,

@@ -27,7 +27,6 @@ impl Same for Defaults {
 }
 
 /// How tokens reach a receiver (Shared Signals Framework 1.0, section 6.1).
-#[derive(PartialEq, Eq)]
 pub enum Delivery {
     /// The receiver asks for them (RFC 8936).
     Poll,
@@ -94,7 +93,6 @@ impl Same for Delivery {
 }
 
 /// What a receiver wants of a stream (Shared Signals Framework 1.0, section 8.1.1).
-#[derive(PartialEq, Eq)]
 pub struct Want {
     /// The URIs of the event types that it asks for; none given asks for all.
     pub requested: Option<Items<Text>>,

@@ -7,7 +7,7 @@ use sig_txnode::Turn;
 use std::alloc::Global;
 
 /// What a link came to.
-#[derive(PartialEq, Drop)]
+#[derive(Drop)]
 pub struct LinkLog {
     /// The number of the link.
     pub link: u32,

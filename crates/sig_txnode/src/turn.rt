@@ -7,7 +7,7 @@ use sig_terms::{Answer, Call};
 use std::alloc::Global;
 
 /// A call that a node was asked, and its answer.
-#[derive(PartialEq, Drop)]
+#[derive(Drop)]
 pub struct Turn {
     /// The number of the link that asked it.
     pub link: u32,

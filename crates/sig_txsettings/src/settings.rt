@@ -18,7 +18,7 @@ use sig_terms::Rules;
 use std::alloc::Global;
 
 /// What the settings of a transmitter say.
-#[derive(PartialEq, Drop)]
+#[derive(Drop)]
 pub struct TxSettings {
     /// What it answers and signs by.
     pub rules: Rules,
