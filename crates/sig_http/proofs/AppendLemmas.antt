@@ -12,3 +12,7 @@ added_as old new piece other e f = e ∙ ap (λ l. old ++ l) f
 -- five pieces after what stood
 pub five : (old a b c d e : List ℕ) → ((((old ++ a) ++ b) ++ c) ++ d) ++ e ≡ old ++ ((((a ++ b) ++ c) ++ d) ++ e)
 five old a b c d e = simp append_assoc
+
+-- four
+pub four : (old a b c d : List ℕ) → (((old ++ a) ++ b) ++ c) ++ d ≡ old ++ (((a ++ b) ++ c) ++ d)
+four old a b c d = simp append_assoc
