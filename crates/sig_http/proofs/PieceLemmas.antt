@@ -1,5 +1,6 @@
 -- What is taken of a source, call after call.
-use Rattle.std.proofs.Common.{◌≡◌, ℕ, List, [], ◌++◌, Option, sym, ◌∙◌, ap, subst, append_assoc, append-nil}
+use Rattle.std.proofs.Common.{◌≡◌, ℕ, ◌≤◌, List, [], ◌++◌, Option, Result, Err, sym, ◌∙◌, ap, subst, append_assoc, append-nil, arith}
+use Rattle.std.specs.Prelude.{IsErrOf}
 use Rattle.std.proofs.KnownBytes.{Consumes-nil, Consumes-trans}
 use Rattle.sig_outside.specs.Causes.{Raised}
 use Rattle.sig_http.specs.Faults.{OnFault, OnJudged, Tallies}
@@ -80,3 +81,39 @@ judged_tally Memory decided before now e h = e
 -- the same of bytes by another name
 pub draws_from : (a b c : List ℕ) (l m : Option (List ℕ)) → a ≡ b → Draws a c l m → Draws b c l m
 draws_from a b c l m e p = record { more = p.more; gave = p.gave; stands = p.stands ∙ ap (λ x. x ++ p.more) e }
+
+-- a fault that is passed on is a failed link where the count was raised
+pub link_raises : {T : Type 0} (result : Result T HttpFault) (fault : HttpFault) (first before now : ℕ) → result ≡ Err fault → before ≡ first → Tallies fault before now → IsErrOf result Link → Raised first now
+link_raises result Head first before now is same h e = absurd cc
+link_raises result HeadLong first before now is same h e = absurd cc
+link_raises result Length first before now is same h e = absurd cc
+link_raises result BodyLong first before now is same h e = absurd cc
+link_raises result Coding first before now is same h e = absurd cc
+link_raises result Expect first before now is same h e = absurd cc
+link_raises result Cut first before now is same h e = absurd cc
+link_raises result Link first before now is same h e = subst (λ (b : ℕ). Raised b now) same h
+link_raises result Memory first before now is same h e = absurd cc
+
+-- another leaves the count
+pub other_leaves : {T : Type 0} (result : Result T HttpFault) (fault : HttpFault) (first before now : ℕ) → result ≡ Err fault → before ≡ first → Tallies fault before now → (IsErrOf result Link → ⊥) → now ≡ first
+other_leaves result Head first before now is same h other = h ∙ same
+other_leaves result HeadLong first before now is same h other = h ∙ same
+other_leaves result Length first before now is same h other = h ∙ same
+other_leaves result BodyLong first before now is same h other = h ∙ same
+other_leaves result Coding first before now is same h other = h ∙ same
+other_leaves result Expect first before now is same h other = h ∙ same
+other_leaves result Cut first before now is same h other = h ∙ same
+other_leaves result Link first before now is same h other = absurd (other is)
+other_leaves result Memory first before now is same h other = h ∙ same
+
+-- none lowers it
+pub none_lowers : (fault : HttpFault) (first before now : ℕ) → before ≡ first → Tallies fault before now → first ≤ now
+none_lowers Head first before now same h = omega arith
+none_lowers HeadLong first before now same h = omega arith
+none_lowers Length first before now same h = omega arith
+none_lowers BodyLong first before now same h = omega arith
+none_lowers Coding first before now same h = omega arith
+none_lowers Expect first before now same h = omega arith
+none_lowers Cut first before now same h = omega arith
+none_lowers Link first before now same h = omega (arith, h.0)
+none_lowers Memory first before now same h = omega arith

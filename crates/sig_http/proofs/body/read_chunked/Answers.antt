@@ -1,7 +1,7 @@
-use Rattle.std.proofs.Common.{◌≡◌, ◌∙◌, ap, sym, arith, length}
-use Rattle.sig_http.specs.Chunks.{chunks_from}
-use Rattle.sig_http.proofs.PieceLemmas.{judged_fault, judged_tally, draws_from}
-use Rattle.sig_http.proofs.BodyLemmas.{chunks_break, chunks_cut, chunking_on}
+use Rattle.std.proofs.Common.{◌≡◌, ◌∙◌, Err, ap, sym, arith, rules, length, drop}
+use Rattle.sig_http.specs.Chunks.{Holds, chunks_from}
+use Rattle.sig_http.proofs.PieceLemmas.{judged_fault, judged_tally, draws_from, halts_fault, halts_tally}
+use Rattle.sig_http.proofs.BodyLemmas.{chunks_break, chunks_cut, chunks_end, chunking_on}
 use Rattle.sig_http.proofs.body.read_chunked.Goals as goal
 
 pub returns-in-Broken-clause-refused : goal.returns-in-Broken-clause-refused
@@ -37,3 +37,20 @@ pieces-preserved g c =
       beside = c.in_ok-take_piece.ensures.beside ∙ before.beside;
       steady = c.in_ok-take_piece.ensures.steady ∙ before.steady;
     }
+
+pub returns-in-Ended-clause-body : goal.returns-in-Ended-clause-body
+returns-in-Ended-clause-body g c =
+    let told = rw c.in-Ended.is at c.in_ok-next.ensures.told in
+    chunks_end c.args.limit c.in-Ended.place c.args.held.items c.pieces.phase c.pieces.content.items c.pieces.held.items _ _ _ c.pieces.invariant.chunking
+    (ap (chunks_from c.args.limit c.pieces.phase c.pieces.content.items) (sym c.as_slice.ensures.value) ∙ told.1 ∙ ap (λ b. Holds c.read_chunks.new.content.items (drop c.in-Ended.place b)) c.as_slice.ensures.value)
+    c.in_ok-rest-in-Ended.ensures.tail
+
+pub returns-in_err-take_piece-clause-refused : goal.returns-in_err-take_piece-clause-refused
+returns-in_err-take_piece-clause-refused g c =
+    let is : c.from_residual-in_err-take_piece.result ≡ Err c.in_err-take_piece.field-0.0 = search rules in
+    rw is (halts_fault c.in_err-take_piece.field-0.0 _ _ _ _ c.in_err-take_piece.ensures.halts)
+
+pub returns-in_err-take_piece-clause-tally : goal.returns-in_err-take_piece-clause-tally
+returns-in_err-take_piece-clause-tally g c =
+    let is : c.from_residual-in_err-take_piece.result ≡ Err c.in_err-take_piece.field-0.0 = search rules in
+    rw is (halts_tally c.in_err-take_piece.field-0.0 _ _ _ c.pieces.invariant.steady c.in_err-take_piece.ensures.halts)

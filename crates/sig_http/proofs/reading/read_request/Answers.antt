@@ -1,9 +1,9 @@
-use Rattle.std.proofs.Common.{◌≡◌, ◌∙◌, ap, subst, Err, List, ℕ, rules}
+use Rattle.std.proofs.Common.{◌≡◌, ◌∙◌, ap, refl, subst, Err, List, ℕ, rules}
 use Rattle.sig_json.specs.declared.limits.TheConstants.{REQUEST_BODY_BYTES}
 use Rattle.sig_http.specs.Message.{FindsRequest, requests}
 use Rattle.sig_http.specs.Heads.{Opens, RefusesHead}
 use Rattle.sig_http.specs.Bodies.{EndsBody, StopsBody}
-use Rattle.sig_http.proofs.PieceLemmas.{draws_from}
+use Rattle.sig_http.proofs.PieceLemmas.{draws_from, link_raises, other_leaves, none_lowers}
 use Rattle.sig_http.proofs.ReadingLemmas.{section_refused, head_refused, body_refused, got_request}
 use Rattle.sig_http.proofs.reading.read_request.Goals as goal
 
@@ -34,3 +34,23 @@ returns-clause-found g c =
     let ends = subst (λ (held : List ℕ). EndsBody REQUEST_BODY_BYTES c.in_ok-request.framing held c.in_ok-body.body (g.S.Source.left c.take_section.new.source) (g.S.Source.left c.read_body.new.source)) c.in_ok-after.ensures.tail c.in_ok-body.ensures.body in
     got_request c.args.kept.now c.take_section.new.held.items c.in-Some.count c.in_ok-request.request c.in_ok-request.framing c.in_ok-body.body _ _ _ _ _ (draws_from _ _ _ _ _ c.take-held.ensures.taken c.in_ok-count.ensures.draws) taken.0 taken.1 opens ends
     (ap (λ b. record c.in_ok-request.request { body = b }) c.from_vec.ensures) c.put.ensures.kept
+
+pub returns-in_err-count-clause-link : goal.returns-in_err-count-clause-link
+returns-in_err-count-clause-link g c = link_raises c.from_residual.result c.in_err-count.field-0.0 _ _ _ (search rules) refl c.in_err-count.ensures.tally
+
+pub returns-in_err-count-clause-steady : goal.returns-in_err-count-clause-steady
+returns-in_err-count-clause-steady g c = other_leaves c.from_residual.result c.in_err-count.field-0.0 _ _ _ (search rules) refl c.in_err-count.ensures.tally
+
+pub returns-in_err-count-clause-later : goal.returns-in_err-count-clause-later
+returns-in_err-count-clause-later g c = none_lowers c.in_err-count.field-0.0 _ _ _ refl c.in_err-count.ensures.tally
+
+pub returns-in_err-body-clause-link : goal.returns-in_err-body-clause-link
+returns-in_err-body-clause-link g c =
+    link_raises c.from_residual-in_err-body.result c.in_err-body.field-0.0 _ _ _ (search rules) c.in_ok-count.ensures.steady c.in_err-body.ensures.tally
+
+pub returns-in_err-body-clause-steady : goal.returns-in_err-body-clause-steady
+returns-in_err-body-clause-steady g c =
+    other_leaves c.from_residual-in_err-body.result c.in_err-body.field-0.0 _ _ _ (search rules) c.in_ok-count.ensures.steady c.in_err-body.ensures.tally
+
+pub returns-in_err-body-clause-later : goal.returns-in_err-body-clause-later
+returns-in_err-body-clause-later g c = none_lowers c.in_err-body.field-0.0 _ _ _ c.in_ok-count.ensures.steady c.in_err-body.ensures.tally
