@@ -5,5 +5,6 @@ pub mod Images
 pub mod LoadLemmas
 pub mod Moments
 pub mod NewStores
+pub mod ReadLemmas
 pub mod RecordLemmas
 pub mod Stores

@@ -22,3 +22,12 @@ returns-clause-told g c = λ told.
     (ap (λ (l : List ℕ). in_file_at (file_number c.args.in_b) (content_of c.args.kind l)) (sym bytes)
     ∙ ap (λ (n : ℕ). in_file_at n (content_of c.args.kind c.as_slice.result.now)) (sym c.number_of.ensures) ∙ damaged))))
     c.in-Err.ensures.content
+
+pub returns-in_err-bytes-clause-reads : goal.returns-in_err-bytes-clause-reads
+returns-in_err-bytes-clause-reads g c = c.in_err-bytes.ensures.reads
+
+pub returns-in-Ok-clause-reads : goal.returns-in-Ok-clause-reads
+returns-in-Ok-clause-reads g c = c.in_ok-bytes.ensures.reads
+
+pub returns-clause-reads : goal.returns-clause-reads
+returns-clause-reads g c = c.in_ok-bytes.ensures.reads
