@@ -16,3 +16,7 @@ five old a b c d e = simp append_assoc
 -- four
 pub four : (old a b c d : List ℕ) → (((old ++ a) ++ b) ++ c) ++ d ≡ old ++ (((a ++ b) ++ c) ++ d)
 four old a b c d = simp append_assoc
+
+-- three
+pub three : (old a b c : List ℕ) → ((old ++ a) ++ b) ++ c ≡ old ++ ((a ++ b) ++ c)
+three old a b c = simp append_assoc

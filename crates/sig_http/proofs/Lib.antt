@@ -6,6 +6,7 @@ pub mod LawLemmas
 pub mod OutcomeLemmas
 pub mod PieceLemmas
 pub mod ReadingLemmas
+pub mod ResponseLemmas
 pub mod SectionLemmas
 pub mod TextLemmas
 pub mod TokenLemmas
