@@ -1,6 +1,7 @@
-//! Stores in memory whose first file, the one in force, fails at one of its calls.
+//! Stores in memory.
 
-use sig_json::{Bytes, Items, Memory};
+use crate::calls::calls;
+use sig_json::{Bytes, Memory};
 use sig_outside::MemDisk;
 use std::alloc::Global;
 
@@ -20,22 +21,18 @@ pub struct Files {
 }
 
 fn disk(alloc: Global, bytes: &[u8], failing: Option<u64>) -> Result<MemDisk, Memory> {
-    let mut calls = Vec::new(alloc);
-    if let Some(call) = failing {
-        calls.push(call)?;
-    }
-    Ok(MemDisk::new(alloc, Bytes::of(alloc, bytes)?, Items::of(calls)))
+    Ok(MemDisk::new(alloc, Bytes::of(alloc, bytes)?, calls(alloc, failing)?))
 }
 
-/// A store of this kind without a record, `T` or `R`, whose first file fails at this call, counted from 0.
+/// A store of this kind without a record, `T` or `R`, whose first file, the one in force, may fail at a call, counted from 0.
 ///
 /// Loading a node makes four calls of it, and each record that is added four more: its bytes are written and synced, and
 /// then the gate before them.
-pub fn store(alloc: Global, kind: u8, failing: u64) -> Result<Files, Memory> {
+pub fn store(alloc: Global, kind: u8, failing: Option<u64>) -> Result<Files, Memory> {
     let mut bytes = EMPTY;
     bytes[6] = kind;
     let b = disk(alloc, b"\0", None)?;
-    let a = disk(alloc, &bytes, Some(failing))?;
+    let a = disk(alloc, &bytes, failing)?;
     Ok(Files { a, b })
 }
 

@@ -19,8 +19,6 @@ mod ending;
 mod entering;
 mod finishing;
 mod running;
-#[cfg(test)]
-mod tests;
 
 pub use command::Command;
 pub use ending::Ending;

@@ -1,0 +1,70 @@
+//! A door that gives two held links.
+
+use crate::held_link::{HeldLink, Plan};
+use crate::still_side::StillSide;
+use sig_json::Bytes;
+use sig_links::{Accepted, Door, FaultCount};
+use sig_outside::Failed;
+use std::alloc::Global;
+use std::sync::atomic::AtomicU64;
+
+/// A door that gives links by two plans, and keeps what was written to them.
+#[derive(Drop)]
+pub struct HeldDoor<'a> {
+    alloc: Global,
+    answered: &'a AtomicU64,
+    plans: [Plan; 2],
+    given: usize,
+    /// What was written to each, in the order in which they came back.
+    pub written: Vec<Bytes>,
+    faults: FaultCount,
+}
+
+impl<'a> HeldDoor<'a> {
+    /// A door of these plans.
+    pub fn new(alloc: Global, answered: &'a AtomicU64, plans: [Plan; 2]) -> HeldDoor<'a> {
+        HeldDoor {
+            alloc,
+            answered,
+            plans,
+            given: 0,
+            written: Vec::new(alloc),
+            faults: FaultCount::new(),
+        }
+    }
+}
+
+impl<'a> Door for HeldDoor<'a> {
+    type L = HeldLink<'a>;
+
+    type S = StillSide<'a>;
+
+    ghost use Rattle.std.specs.Prelude.{None, [], false};
+
+    ghost place = { λ d. None };
+
+    ghost coming = { λ d. None };
+
+    ghost served = { λ d. None };
+
+    ghost out = { λ d. 0 };
+
+    ghost plan = { λ l. record { bytes = []; fails = false } };
+
+    ghost faults = { λ d. d.faults };
+
+    fn accept(&mut self) -> Result<Accepted<HeldLink<'a>, StillSide<'a>>, Failed> {
+        let Some(plan) = self.plans.get(self.given) else {
+            return Ok(Accepted::Shut);
+        };
+        self.given = self.given.saturating_add(1);
+        Ok(Accepted::Link {
+            link: HeldLink::new(self.alloc, self.answered, *plan),
+            side: StillSide::new(),
+        })
+    }
+
+    fn back(&mut self, link: HeldLink<'a>, _side: StillSide<'a>) {
+        let _ = self.written.push(link.into_written());
+    }
+}
