@@ -5,7 +5,7 @@ use sig_json::{Memory, MemoryRefusal, PayloadFault};
 use std::alloc::Global;
 
 /// Why a payload is no event of its type about the subject.
-#[derive(Debug, PartialEq, Eq, Drop)]
+#[derive(Debug, Drop)]
 pub enum EventFault {
     /// The payload is no object.
     NotObject,

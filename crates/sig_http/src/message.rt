@@ -4,7 +4,6 @@ use sig_json::{Bytes, Copied, Items, Memory, Text, copy_items, copy_optional};
 use std::alloc::Global;
 
 /// A request.
-#[derive(PartialEq)]
 pub struct Request {
     /// The method, a token (RFC 9110, section 9.1).
     pub method: Text,
@@ -39,14 +38,13 @@ impl Drop for Request {
 }
 
 /// A field of a response that is written.
-#[derive(PartialEq, Drop)]
+#[derive(Drop)]
 pub struct Header {
     pub name: Text,
     pub value: Text,
 }
 
 /// A response.
-#[derive(PartialEq)]
 pub struct Response {
     /// The status code (RFC 9110, section 15).
     pub status: u16,

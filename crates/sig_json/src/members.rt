@@ -12,7 +12,7 @@ use serde_json::Value;
 use std::alloc::Global;
 
 /// Why the payload of an event is none of its type. Each fault but `Memory` carries the member's name.
-#[derive(Debug, PartialEq, Eq, Drop)]
+#[derive(Debug, Drop)]
 pub enum PayloadFault {
     /// A required member isn't there.
     Missing(Text),

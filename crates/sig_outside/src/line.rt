@@ -5,7 +5,7 @@ use std::alloc::Global;
 use thiserror::Error;
 
 /// A line of a text, without the LF that ends it and one CR before that.
-#[derive(PartialEq, Eq, Drop)]
+#[derive(Drop)]
 pub enum Line {
     /// The line of this number, from 1, and its bytes.
     Text { number: u64, bytes: Bytes },

@@ -4,7 +4,7 @@ use sig_json::{Memory, MemoryRefusal, Text};
 use std::alloc::Global;
 
 /// Why a JSON value is no subject. The first check that fails decides.
-#[derive(Debug, PartialEq, Eq, Drop)]
+#[derive(Debug, Drop)]
 pub enum SubjectFault {
     /// The value is no object, or its `format` is no text.
     Format,
