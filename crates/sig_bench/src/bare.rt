@@ -1,8 +1,8 @@
 ghost use Rattle.std.specs.Prelude.{◌≤◌};
 
 use crate::Stopped;
-use sig_files::FileDisk;
 use sig_outside::Disk;
+use sig_system::FileDisk;
 use std::alloc::Global;
 use std::fs::{File, Files};
 

@@ -2,13 +2,13 @@ use crate::Stopped;
 use crate::store::{load_stopped, open_files, open_store};
 use sig_entry::encode_token;
 use sig_event::Claims;
-use sig_files::FileDisk;
 use sig_journal::{GATE_OPEN, Kind};
 use sig_json::{Bytes, Items, Memory, Text};
 use sig_jws::Key;
 use sig_outside::Disk;
 use sig_rxnode::{RxAnswer, RxCall, RxFault, RxNode, RxRules};
 use sig_set::{Issuer, Trust, WriteFault, claims_of, write};
+use sig_system::FileDisk;
 use std::alloc::Global;
 use std::fs::{File, Files};
 

@@ -1,11 +1,11 @@
 ghost use Rattle.std.specs.Prelude.{◌≤◌};
 
 use crate::Stopped;
-use sig_files::FileDisk;
 use sig_journal::{
     AppendFault, GATE_OPEN, Kind, LoadFault, LoadRefused, Loaded, MakeFault, frame, load, make,
 };
 use sig_outside::Disk;
+use sig_system::FileDisk;
 use std::alloc::Global;
 use std::fs::{File, Files};
 

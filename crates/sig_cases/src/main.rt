@@ -28,7 +28,7 @@ mod word;
 
 use crate::bench::Bench;
 use sig_lines::run;
-use sig_standard::{ReaderSource, WriterSink};
+use sig_system::{ReaderSource, WriterSink};
 use std::process::ExitCode;
 
 // The status of a run for which memory runs out.

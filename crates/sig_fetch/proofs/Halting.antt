@@ -9,10 +9,10 @@ use Rattle.sig_receiver.specs.declared.heard.Heard.TheVariants as heard
 use Rattle.sig_receiver.specs.Journal.{journal_by}
 use Rattle.sig_receiver.specs.Receiver.{Received, heard_at}
 use Rattle.sig_set.specs.declared.trust.Trust.{Trust}
-use Rattle.sig_store.specs.Appended.{Breaks, WritesOne}
-use Rattle.sig_store.specs.Stored.{Stored}
-use Rattle.sig_store.specs.declared.fault.NodeFault.{NodeFault}
-use Rattle.sig_store.specs.declared.fault.NodeFault.TheVariants as node
+use Rattle.sig_journal.specs.Appended.{Breaks, WritesOne}
+use Rattle.sig_journal.specs.Stored.{Stored}
+use Rattle.sig_journal.specs.declared.node_fault.NodeFault.{NodeFault}
+use Rattle.sig_journal.specs.declared.node_fault.NodeFault.TheVariants as node
 use Rattle.sig_rxnode.specs.declared.answer.RxAnswer.{RxAnswer}
 use Rattle.sig_rxnode.specs.declared.call.RxCall.{RxCall}
 use Rattle.sig_rxnode.specs.declared.call.RxCall.TheVariants as call

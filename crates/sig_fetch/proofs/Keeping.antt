@@ -23,8 +23,8 @@ use Rattle.sig_receiver.specs.declared.heard.Heard.TheVariants as heard
 use Rattle.sig_receiver.proofs.KeptLemmas.{new_text, none_more}
 use Rattle.sig_delivery.specs.declared.sets.Listed.{Listed}
 use Rattle.sig_delivery.specs.declared.sets.Sets.{Sets}
-use Rattle.sig_store.specs.declared.fault.NodeFault.{NodeFault}
-use Rattle.sig_store.specs.declared.fault.NodeFault.TheVariants as node
+use Rattle.sig_journal.specs.declared.node_fault.NodeFault.{NodeFault}
+use Rattle.sig_journal.specs.declared.node_fault.NodeFault.TheVariants as node
 use Rattle.sig_rxnode.specs.declared.answer.RxAnswer.{RxAnswer}
 use Rattle.sig_rxnode.specs.declared.call.RxCall.{RxCall}
 use Rattle.sig_rxnode.specs.declared.call.RxCall.TheVariants.{Token}

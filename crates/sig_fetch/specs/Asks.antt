@@ -9,7 +9,7 @@ use Rattle.sig_terms.specs.declared.call.Reported.{Reported}
 use Rattle.sig_set.specs.declared.refusal.Code.{Code}
 use Rattle.sig_set.specs.Spelled.{code_text}
 use Rattle.sig_delivery.specs.Asks.{ask_text}
-use Rattle.sig_store.specs.declared.fault.NodeFault.{NodeFault}
+use Rattle.sig_journal.specs.declared.node_fault.NodeFault.{NodeFault}
 use Rattle.sig_rxnode.specs.declared.answer.RxAnswer.{RxAnswer}
 use Rattle.sig_rxnode.specs.declared.answer.RxAnswer.TheVariants.{Accepted, Seen, Refused, Verdict, Rows}
 use Rattle.sig_rxnode.specs.declared.call.RxCall.{RxCall}

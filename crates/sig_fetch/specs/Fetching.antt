@@ -7,7 +7,7 @@ use Rattle.sig_links.specs.Told.{LinkPlan, Sent}
 use Rattle.sig_terms.specs.declared.call.PollAsk.{PollAsk}
 use Rattle.sig_delivery.specs.declared.sets.Listed.{Listed}
 use Rattle.sig_inbox.specs.Pairs.{has_pair}
-use Rattle.sig_store.specs.declared.fault.NodeFault.{NodeFault}
+use Rattle.sig_journal.specs.declared.node_fault.NodeFault.{NodeFault}
 use Rattle.sig_rxnode.specs.declared.answer.RxAnswer.{RxAnswer}
 use Rattle.sig_rxnode.specs.declared.answer.RxAnswer.TheVariants as answer
 use Rattle.sig_rxnode.specs.declared.rules.Peer.{Peer}

@@ -9,8 +9,8 @@ use Rattle.sig_dial.specs.declared.fault.AskFault.{AskFault}
 use Rattle.sig_terms.specs.declared.call.PollAsk.{PollAsk}
 use Rattle.sig_delivery.specs.declared.sets.Listed.{Listed}
 use Rattle.sig_delivery.specs.declared.sets.Sets.{Sets}
-use Rattle.sig_store.specs.declared.fault.NodeFault.{NodeFault}
-use Rattle.sig_store.specs.declared.fault.NodeFault.TheVariants as node
+use Rattle.sig_journal.specs.declared.node_fault.NodeFault.{NodeFault}
+use Rattle.sig_journal.specs.declared.node_fault.NodeFault.TheVariants as node
 use Rattle.sig_rxnode.specs.declared.answer.RxAnswer.{RxAnswer}
 use Rattle.sig_rxnode.specs.declared.call.RxCall.TheVariants.{Token}
 use Rattle.sig_rxnode.specs.declared.rules.Peer.{Peer}

@@ -1,7 +1,7 @@
 -- What turns make of a receiver's node.
 use Rattle.std.specs.Prelude.{◌≡◌, ◌⊎◌, ℕ, List, [], ◌∷◌, ◌++◌, length, Bool, true, is_some, IfOk, IsErrOf, Result, Err}
-use Rattle.sig_store.specs.Appended.{Breaks, WritesOne}
-use Rattle.sig_store.specs.declared.fault.NodeFault.TheVariants as node
+use Rattle.sig_journal.specs.Appended.{Breaks, WritesOne}
+use Rattle.sig_journal.specs.declared.node_fault.NodeFault.TheVariants as node
 use Rattle.sig_set.specs.declared.trust.Trust.{Trust}
 use Rattle.sig_receiver.specs.Receiver.{Received}
 use Rattle.sig_rxnode.specs.declared.call.RxCall.{RxCall}

@@ -1,10 +1,13 @@
 pub mod Adding
 pub mod Appending
+pub mod Appends
 pub mod Fronts
 pub mod Images
 pub mod LoadLemmas
+pub mod LoadSteps
 pub mod Moments
 pub mod NewStores
 pub mod ReadLemmas
 pub mod RecordLemmas
+pub mod Stands
 pub mod Stores

@@ -1,10 +1,15 @@
 pub mod Added
+pub mod Appended
 pub mod Content
 pub mod Durable
+pub mod Faults
 pub mod Journal
 pub mod Layout
 pub mod Loaded
 pub mod OnlyRead
 pub mod Opened
 pub mod Records
+pub mod Standing
 pub mod Store
+pub mod Stored
+pub mod Taking

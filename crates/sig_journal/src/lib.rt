@@ -12,10 +12,18 @@
 //! opens that gate by a write of its own, and syncs. So no checksum is trusted: a torn write lies after a closed gate or is
 //! the gate alone.
 //!
+//! A `Store` is the journal as a node holds it, with the moment at which it broke. A node changes its state by records alone: a
+//! record stands in the journal before it has its effect. So the state that a store stands for is found by taking its records up
+//! in order (`specs/Taking`), whatever the state is; each node says by a `Taking` how it takes one up.
+//!
+//!     state before --record is added--> any crash: state before or after --Ok--> any crash: state after
+//!
 //! Promised: at `Ok` of `append` no crash takes the record away, and at any moment before a crash leaves what the store told
 //! or that with the record; `load` gives what the store tells, and `Damaged` names the file and the offset exactly where the
-//! bytes are no journal; a refusal comes only where a disk has counted a fault, where 2^62 is passed, or for memory.
-//! Left out: a crash while `make` runs; that a real file is such a disk; what a payload means.
+//! bytes are no journal; a refusal comes only where a disk has counted a fault, where 2^62 is passed, or for memory. Of any
+//! node whose store stands for its state (`specs/Standing`), an added record leaves it standing for the state after it; a crash
+//! at any moment of the call leaves the one or the other; and where a disk failed, the store is broken from then on, and stands
+//! for the state before or after. Left out: a crash while `make` runs; that a real file is such a disk; what a payload means.
 #![tactic(auto)]
 
 mod added;
@@ -31,8 +39,11 @@ mod layout;
 mod loaded;
 mod loading;
 mod making;
+mod node_fault;
 mod reading;
 mod records;
+mod store;
+mod threads;
 
 pub use fault::LoadFault;
 pub use framed::{Framed, frame};
@@ -41,3 +52,5 @@ pub use kind::Kind;
 pub use layout::{GATE_OPEN, HEADER_BYTES, MAGIC, RECORD_HEAD_BYTES, STORE_ID_BYTES, VERSION};
 pub use loaded::{LoadRefused, Loaded, load};
 pub use making::{MakeFault, make};
+pub use node_fault::NodeFault;
+pub use store::Store;

@@ -21,12 +21,12 @@ use Rattle.sig_journal.specs.Added.{rests_with_it}
 use Rattle.sig_journal.specs.Journal.{image_store, told_store}
 use Rattle.sig_journal.specs.Layout.{end_of}
 use Rattle.sig_journal.specs.Store.{Told, pick, tells, with_record}
-use Rattle.sig_store.specs.declared.fault.NodeFault.{NodeFault}
-use Rattle.sig_store.specs.declared.fault.NodeFault.TheVariants.{Store, Full, Memory}
-use Rattle.sig_store.specs.Standing.{Loads}
-use Rattle.sig_store.specs.Appended.{Breaks, HasRecord}
-use Rattle.sig_store.specs.Stored.{Stored}
-use Rattle.sig_store.specs.Taking.{loaded}
+use Rattle.sig_journal.specs.declared.node_fault.NodeFault.{NodeFault}
+use Rattle.sig_journal.specs.declared.node_fault.NodeFault.TheVariants.{Store, Full, Memory}
+use Rattle.sig_journal.specs.Standing.{Loads}
+use Rattle.sig_journal.specs.Appended.{Breaks, HasRecord}
+use Rattle.sig_journal.specs.Stored.{Stored}
+use Rattle.sig_journal.specs.Taking.{loaded}
 use Rattle.sig_still.specs.Still.{faults, is_short, moment, rest, stop, tells_file}
 use Rattle.sig_still.specs.Stores.{HoldsStore, Reads, ReadsBoth, end_at, store_of, with_kept}
 use Rattle.sig_still.proofs.Crashes.{crash_tells, holds_count, holds_end, loaded_holds, read_holds, stop_image, stop_rests, stop_tells}

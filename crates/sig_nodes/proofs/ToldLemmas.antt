@@ -13,8 +13,8 @@ use Rattle.sig_terms.specs.declared.rules.Rules.{Rules}
 use Rattle.sig_terms.specs.Reply.{Reply}
 use Rattle.sig_history.specs.Owed.{Sum}
 use Rattle.sig_calls.specs.Table.{answer_of, change_of, over_top, prepared_of, told_of}
-use Rattle.sig_store.specs.declared.fault.NodeFault.{NodeFault}
-use Rattle.sig_store.specs.declared.fault.NodeFault.TheVariants.{Store, Full, Memory}
+use Rattle.sig_journal.specs.declared.node_fault.NodeFault.{NodeFault}
+use Rattle.sig_journal.specs.declared.node_fault.NodeFault.TheVariants.{Store, Full, Memory}
 use Rattle.sig_txnode.specs.Answering.{answer_at, answer_with, end_with, where_room}
 
 abbrev Answered : Type 0

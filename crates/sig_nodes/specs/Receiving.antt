@@ -6,7 +6,7 @@ use Rattle.sig_receiver.specs.Receiver.{Received, nothing, received_of}
 use Rattle.sig_journal.specs.declared.kind.Kind.TheVariants.{Rx}
 use Rattle.sig_journal.specs.Store.{pick, tells}
 use Rattle.sig_outside.specs.KeptDisk.{Kept}
-use Rattle.sig_store.specs.Taking.{loaded}
+use Rattle.sig_journal.specs.Taking.{loaded}
 use Rattle.sig_still.specs.Still.{is_short, rest}
 use Rattle.sig_still.specs.Stores.{HoldsStore, end_at, store_of, with_kept}
 use Rattle.sig_rxnode.specs.declared.answer.RxAnswer.{RxAnswer}

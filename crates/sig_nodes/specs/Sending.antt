@@ -9,8 +9,8 @@ use Rattle.sig_calls.specs.Table.{change_of}
 use Rattle.sig_journal.specs.declared.kind.Kind.TheVariants.{Tx}
 use Rattle.sig_journal.specs.Store.{pick, tells}
 use Rattle.sig_outside.specs.KeptDisk.{Kept}
-use Rattle.sig_store.specs.Taking.{loaded}
-use Rattle.sig_store.specs.declared.fault.NodeFault.{NodeFault}
+use Rattle.sig_journal.specs.Taking.{loaded}
+use Rattle.sig_journal.specs.declared.node_fault.NodeFault.{NodeFault}
 use Rattle.sig_still.specs.Still.{is_short, rest}
 use Rattle.sig_still.specs.Stores.{HoldsStore, end_at, store_of, with_kept}
 use Rattle.sig_txnode.specs.Answering.{answer_at, time_used}

@@ -6,7 +6,7 @@ ghost use Rattle.sig_journal.specs.declared.kind.Kind.TheVariants.{Rx};
 ghost use Rattle.sig_journal.specs.Store.{tells};
 ghost use Rattle.sig_outside.specs.Disk.{StopsAfter};
 ghost use Rattle.sig_outside.specs.KeptDisk.{seen};
-ghost use Rattle.sig_store.specs.Taking as taking;
+ghost use Rattle.sig_journal.specs.Taking as taking;
 ghost use Rattle.sig_still.specs.Still.{is_short, stop};
 ghost use Rattle.sig_still.specs.Stores.{ReadsBoth, store_of};
 ghost use Rattle.sig_rxnode.specs.declared.rules.RxRules.{RxRules as Settings};

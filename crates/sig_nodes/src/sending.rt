@@ -9,7 +9,7 @@ ghost use Rattle.sig_journal.specs.Added.{rests_with_it};
 ghost use Rattle.sig_journal.specs.declared.kind.Kind.TheVariants.{Tx};
 ghost use Rattle.sig_journal.specs.Store.{tells};
 ghost use Rattle.sig_outside.specs.KeptDisk.{seen};
-ghost use Rattle.sig_store.specs.Taking as taking;
+ghost use Rattle.sig_journal.specs.Taking as taking;
 ghost use Rattle.sig_outside.specs.Disk.{StopsAfter};
 ghost use Rattle.sig_still.specs.Still.{is_short, stop};
 ghost use Rattle.sig_still.specs.Stores.{ReadsBoth, store_of};

@@ -8,9 +8,9 @@ use Rattle.sig_journal.specs.declared.fault.LoadFault.TheVariants as load
 use Rattle.sig_journal.specs.declared.kind.Kind.{Kind}
 use Rattle.sig_journal.specs.Journal.{BothTold, Open, store_with, told_store}
 use Rattle.sig_journal.specs.Store.{pick, tells}
-use Rattle.sig_store.specs.Standing.{InFlight, StandsFor}
-use Rattle.sig_store.specs.Stored.{Stored}
-use Rattle.sig_store.specs.Taking.{Taking, loaded}
+use Rattle.sig_journal.specs.Standing.{InFlight, StandsFor}
+use Rattle.sig_journal.specs.Stored.{Stored}
+use Rattle.sig_journal.specs.Taking.{Taking, loaded}
 use Rattle.sig_opening.specs.Closing.{PutsBack}
 use Rattle.sig_opening.specs.Ends.{BreaksAfter, BreaksBy, fails_by}
 use Rattle.sig_opening.specs.declared.ending.ServeEnd.{ServeEnd}

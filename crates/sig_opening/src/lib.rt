@@ -6,7 +6,7 @@
 //!     <store>.a, <store>.b -> two disks -> (a node) -> two disks -> given back
 //! ```
 //!
-//! It stands on `sig_links` for the outside, on `sig_settings` for the faults of settings, and on `sig_store` for what a store
+//! It stands on `sig_links` for the outside, on `sig_settings` for the faults of settings, and on `sig_journal` for what a store
 //! stands for. Promised: bytes that are told are read whole up to their limit; where nothing was read or opened, the outside
 //! counted a fault of that kind, or memory ran out; and what was opened is given back on every path. Left out: what settings
 //! say, what a node does, and the door, which each server has of its own; `specs/` has what both say of their watches.

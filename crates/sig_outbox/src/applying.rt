@@ -10,8 +10,8 @@ ghost use Rattle.sig_outbox.specs.State.{taken_where};
 
 use sig_json::{Memory, MemoryRefusal};
 use sig_ledger::Ledger;
-use sig_making::may_be_made;
 use sig_terms::Fact;
+use sig_token_calls::may_be_made;
 use thiserror::Error;
 
 /// Why a fact wasn't taken in.

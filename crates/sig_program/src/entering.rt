@@ -1,7 +1,7 @@
 //! The way in: the program's words, standard input and standard output.
 
 use crate::running::start;
-use sig_standard::{ReaderSource, WriterSink};
+use sig_system::{ReaderSource, WriterSink};
 use std::process::ExitCode;
 use std::{env, io};
 

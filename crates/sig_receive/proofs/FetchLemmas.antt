@@ -19,7 +19,7 @@ use Rattle.sig_rxnode.specs.declared.rules.RxRules.{RxRules}
 use Rattle.sig_rxnode.specs.declared.turn.RxTurn.{RxTurn}
 use Rattle.sig_serving.specs.Side.{SideView}
 use Rattle.sig_journal.specs.Store.{pick}
-use Rattle.sig_store.specs.Appended.{WritesOne}
+use Rattle.sig_journal.specs.Appended.{WritesOne}
 use Rattle.sig_opening.specs.Ends.{BreaksBy}
 use Rattle.sig_opening.specs.Files.{IfBoth}
 use Rattle.sig_opening.proofs.DoorLemmas.{risen_more}

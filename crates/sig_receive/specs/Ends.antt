@@ -4,7 +4,7 @@ use Rattle.sig_journal.specs.declared.fault.LoadFault.{LoadFault}
 use Rattle.sig_journal.specs.declared.kind.Kind.TheVariants.{Rx}
 use Rattle.sig_journal.specs.Store.{tells}
 use Rattle.sig_receiver.specs.Receiver.{Received}
-use Rattle.sig_store.specs.Taking.{loaded}
+use Rattle.sig_journal.specs.Taking.{loaded}
 use Rattle.sig_rxnode.specs.Records.{receiving}
 use Rattle.sig_rxsettings.specs.declared.settings.RxSettings.{RxSettings}
 use Rattle.sig_rxsettings.specs.Settings.{rx_settings_of}

@@ -11,7 +11,7 @@ use Rattle.sig_rxnode.specs.Turns.{AreTrue, changes_of}
 use Rattle.sig_rxwatch.specs.Serving.{ServesOne}
 use Rattle.sig_serving.specs.Stops.{is_shut}
 use Rattle.sig_serving.specs.declared.stop.Stop.{Stop}
-use Rattle.sig_threads.specs.Attending.{Attends}
+use Rattle.sig_watch.specs.Attending.{Attends}
 use Rattle.sig_watch.specs.declared.report.Report.{Report}
 
 -- a watch: what it reports, the node's turns in order, the token texts that these added, and what differs between the two, if anything

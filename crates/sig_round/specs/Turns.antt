@@ -1,6 +1,6 @@
 -- The turns that a link makes, in its own log and in the taker's.
 use Rattle.std.specs.Prelude.{◌≡◌, ◌<◌, ℕ, List, [], ◌∷◌, ◌++◌, Option, Some, None, IsErrOf, vec_capacity, vec_len}
-use Rattle.sig_store.specs.declared.fault.NodeFault.TheVariants.{Memory}
+use Rattle.sig_journal.specs.declared.node_fault.NodeFault.TheVariants.{Memory}
 use Rattle.sig_terms.specs.declared.call.Call.{Call}
 use Rattle.sig_txnode.specs.Answering.{time_used}
 use Rattle.sig_txnode.specs.Told.{TakerTold}

@@ -4,9 +4,9 @@ ghost use Rattle.std.specs.Prelude.{◌≡◌, [], ◌∷◌, Err, IfOk, OnErr, 
 ghost use Rattle.sig_calls.specs.Proper.{IsProperCall};
 ghost use Rattle.sig_round.specs.Turns.{Grew, IsTurnOf};
 
+use sig_journal::NodeFault;
 use sig_json::Memory;
 use sig_json::limits::LAST_NUMBER;
-use sig_store::NodeFault;
 use sig_terms::Call;
 use sig_txnode::{Taker, Turn};
 use std::sync::Wait;

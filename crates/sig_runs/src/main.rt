@@ -21,7 +21,7 @@ mod fault;
 use crate::case::Case;
 use crate::fault::{Fault, input_fault};
 use sig_outside::{Line, Lines, Sink, Source};
-use sig_standard::{ReaderSource, WriterSink};
+use sig_system::{ReaderSource, WriterSink};
 use std::alloc::Global;
 use std::process::ExitCode;
 

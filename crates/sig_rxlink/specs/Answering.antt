@@ -4,8 +4,8 @@ use Rattle.std.specs.Prelude.{ℕ, Bool, false, List, [], unwrap_or, Result, Ok,
 use Rattle.sig_http.specs.Answering.{closing as closing_with, refused_with}
 use Rattle.sig_http.specs.Spelling.{response_spelling}
 use Rattle.sig_http.specs.declared.message.Response.{Response}
-use Rattle.sig_store.specs.declared.fault.NodeFault.{NodeFault}
-use Rattle.sig_store.specs.declared.fault.NodeFault.TheVariants.{Store, Full, Memory}
+use Rattle.sig_journal.specs.declared.node_fault.NodeFault.{NodeFault}
+use Rattle.sig_journal.specs.declared.node_fault.NodeFault.TheVariants.{Store, Full, Memory}
 use Rattle.sig_rxnode.specs.declared.answer.RxAnswer.{RxAnswer}
 use Rattle.sig_rxroutes.specs.Answers.{reply}
 use Rattle.sig_rxlink.specs.declared.course.Course.{Course}

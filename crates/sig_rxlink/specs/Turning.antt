@@ -1,7 +1,7 @@
 -- What comes of a request, and the turns that a link makes, in its own log and in the taker's.
 use Rattle.std.specs.Prelude.{◌≡◌, ℕ, List, [], ◌∷◌, ◌++◌, Option, Some, None, Ok, Err, IfOk, IsErrOf}
 use Rattle.sig_http.specs.declared.message.Request.{Request}
-use Rattle.sig_store.specs.declared.fault.NodeFault.TheVariants.{Memory}
+use Rattle.sig_journal.specs.declared.node_fault.NodeFault.TheVariants.{Memory}
 use Rattle.sig_rxnode.specs.Answers.{FitsPage}
 use Rattle.sig_rxnode.specs.Told.{RxTold}
 use Rattle.sig_rxnode.specs.declared.call.RxCall.{RxCall}

@@ -10,8 +10,8 @@ use Rattle.sig_receiver.specs.declared.heard.Heard.TheVariants.{Accepted, Seen, 
 use Rattle.sig_receiver.specs.Journal.{journal_by}
 use Rattle.sig_receiver.specs.Receiver.{Received, heard_at}
 use Rattle.sig_set.specs.declared.trust.Trust.{Trust}
-use Rattle.sig_store.specs.declared.fault.NodeFault.{NodeFault}
-use Rattle.sig_store.specs.declared.fault.NodeFault.TheVariants.{Full}
+use Rattle.sig_journal.specs.declared.node_fault.NodeFault.{NodeFault}
+use Rattle.sig_journal.specs.declared.node_fault.NodeFault.TheVariants.{Full}
 use Rattle.sig_rxnode.specs.declared.answer.RxAnswer.{RxAnswer}
 use Rattle.sig_rxnode.specs.declared.call.RxCall.{RxCall}
 use Rattle.sig_rxnode.specs.declared.call.RxCall.TheVariants as call

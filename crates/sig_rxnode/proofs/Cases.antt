@@ -7,9 +7,9 @@ use Rattle.sig_receiver.specs.Receiver.{Received, is_accepted, received_of}
 use Rattle.sig_receiver.specs.declared.heard.Heard.{Heard}
 use Rattle.sig_receiver.specs.declared.heard.Heard.TheVariants.{Accepted, Seen, NotTaken}
 use Rattle.sig_receiver.proofs.KeptLemmas.{none_more}
-use Rattle.sig_store.specs.Stored.{Stored}
-use Rattle.sig_store.specs.declared.fault.NodeFault.{NodeFault}
-use Rattle.sig_store.specs.declared.fault.NodeFault.TheVariants.{Memory}
+use Rattle.sig_journal.specs.Stored.{Stored}
+use Rattle.sig_journal.specs.declared.node_fault.NodeFault.{NodeFault}
+use Rattle.sig_journal.specs.declared.node_fault.NodeFault.TheVariants.{Memory}
 use Rattle.sig_rxnode.specs.Holding.{Holding, IsHolding}
 use Rattle.sig_rxnode.specs.Journals.{Adds, Causes, Passes, Writes}
 

@@ -13,7 +13,7 @@ use Rattle.sig_set.specs.contracts.last_header.LastHeader as LastHeader
 use Rattle.sig_receiver.specs.contracts.receiver.Receiver as Receiver
 use Rattle.sig_outside.specs.declared.disk.Disk.{Ghosts}
 use Rattle.sig_set.proofs.prepared.PreparedTrust.TheSendSync as trust
-use Rattle.sig_store.proofs.store.Store.TheSendSync as store
+use Rattle.sig_journal.proofs.store.Store.TheSendSync as store
 use Rattle.sig_rxnode.proofs.rules.RxRules.TheSendSync as rules
 use Rattle.sig_rxnode.proofs.turn.RxTurn.TheSendSync as turn
 use Rattle.sig_rxnode.specs.contracts.journalled.Journalled as Journalled

@@ -7,7 +7,7 @@ use Rattle.sig_receiver.specs.declared.heard.Heard.{Heard}
 use Rattle.sig_receiver.specs.declared.heard.Heard.TheVariants.{Accepted}
 use Rattle.sig_receiver.specs.Journal.{journal_by}
 use Rattle.sig_receiver.specs.Receiver.{Received, heard_at, is_accepted, received_of}
-use Rattle.sig_store.specs.declared.fault.NodeFault.{NodeFault}
+use Rattle.sig_journal.specs.declared.node_fault.NodeFault.{NodeFault}
 use Rattle.sig_rxnode.specs.Answers.{heard_texts}
 use Rattle.sig_rxnode.specs.Holding.{Holding}
 use Rattle.sig_rxnode.specs.Journals.{Causes, Writes}

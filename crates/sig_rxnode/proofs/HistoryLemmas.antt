@@ -6,10 +6,10 @@ use Rattle.sig_outside.specs.Disk.{Stop}
 use Rattle.sig_journal.specs.declared.kind.Kind.TheVariants.{Rx}
 use Rattle.sig_receiver.specs.Receiver.{Received, nothing, received_of}
 use Rattle.sig_receiver.proofs.KeptLemmas.{none_more}
-use Rattle.sig_store.specs.Appended.{WritesOne}
-use Rattle.sig_store.specs.Stored.{Stored}
-use Rattle.sig_store.specs.declared.fault.NodeFault.{NodeFault}
-use Rattle.sig_store.specs.declared.fault.NodeFault.TheVariants.{Store, Full, Memory}
+use Rattle.sig_journal.specs.Appended.{WritesOne}
+use Rattle.sig_journal.specs.Stored.{Stored}
+use Rattle.sig_journal.specs.declared.node_fault.NodeFault.{NodeFault}
+use Rattle.sig_journal.specs.declared.node_fault.NodeFault.TheVariants.{Store, Full, Memory}
 use Rattle.sig_rxnode.specs.declared.answer.RxAnswer.{RxAnswer}
 use Rattle.sig_rxnode.specs.declared.call.RxCall.{RxCall}
 use Rattle.sig_rxnode.specs.declared.rules.RxRules.{RxRules}

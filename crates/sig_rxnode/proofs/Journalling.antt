@@ -9,13 +9,13 @@ use Rattle.sig_journal.specs.declared.journal.AppendFault.TheVariants as append
 use Rattle.sig_entry.specs.Tokens.{token_spelling}
 use Rattle.sig_receiver.specs.Receiver.{Received, nothing, received_of}
 use Rattle.sig_receiver.proofs.JournalLemmas.{joins}
-use Rattle.sig_store.specs.Appended.{AppendCauses, HasRecord, LeavesRecord, WritesOne}
-use Rattle.sig_store.specs.Faults.{fault_of}
-use Rattle.sig_store.specs.Standing.{Durable, StandsFor}
-use Rattle.sig_store.specs.Stored.{Stored}
-use Rattle.sig_store.specs.declared.fault.NodeFault.{NodeFault}
-use Rattle.sig_store.specs.declared.fault.NodeFault.TheVariants.{Full}
-use Rattle.sig_store.proofs.Stands.{durable_of, on_ok, stands_after, stands_broken}
+use Rattle.sig_journal.specs.Appended.{AppendCauses, HasRecord, LeavesRecord, WritesOne}
+use Rattle.sig_journal.specs.Faults.{fault_of}
+use Rattle.sig_journal.specs.Standing.{Durable, StandsFor}
+use Rattle.sig_journal.specs.Stored.{Stored}
+use Rattle.sig_journal.specs.declared.node_fault.NodeFault.{NodeFault}
+use Rattle.sig_journal.specs.declared.node_fault.NodeFault.TheVariants.{Full}
+use Rattle.sig_journal.proofs.Stands.{durable_of, on_ok, stands_after, stands_broken}
 use Rattle.sig_rxnode.specs.Holding.{Holding, IsHolding}
 use Rattle.sig_rxnode.specs.Journals.{Causes, Passes, Writes}
 use Rattle.sig_rxnode.specs.Records.{receiving}

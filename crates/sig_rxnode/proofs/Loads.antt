@@ -7,7 +7,7 @@ use Rattle.sig_journal.specs.declared.kind.Kind.TheVariants.{Rx}
 use Rattle.sig_journal.specs.Journal.{BothTold, Open, store_with, told_store}
 use Rattle.sig_journal.specs.Store.{Told, file_number, in_file_at, pick, tells}
 use Rattle.sig_receiver.specs.Receiver.{Received, nothing}
-use Rattle.sig_store.specs.Taking.{loaded, state_after}
+use Rattle.sig_journal.specs.Taking.{loaded, state_after}
 use Rattle.sig_rxnode.specs.Holding.{Holding}
 use Rattle.sig_rxnode.specs.Loading.{HoldsTold}
 use Rattle.sig_rxnode.specs.Records.{receiving, texts_of}

@@ -9,10 +9,10 @@ use Rattle.sig_set.specs.declared.trust.Trust.{Trust}
 use Rattle.sig_receiver.specs.Receiver.{Received}
 use Rattle.sig_rxnode.specs.Answers.{heard_texts}
 use Rattle.sig_journal.specs.Journal.{Open}
-use Rattle.sig_store.specs.Appended.{LeavesRecord}
-use Rattle.sig_store.specs.declared.fault.NodeFault.{NodeFault}
-use Rattle.sig_store.specs.declared.fault.NodeFault.TheVariants.{Store, Full, Memory}
-use Rattle.sig_store.proofs.Stands.{on_ok}
+use Rattle.sig_journal.specs.Appended.{LeavesRecord}
+use Rattle.sig_journal.specs.declared.node_fault.NodeFault.{NodeFault}
+use Rattle.sig_journal.specs.declared.node_fault.NodeFault.TheVariants.{Store, Full, Memory}
+use Rattle.sig_journal.proofs.Stands.{on_ok}
 use Rattle.sig_rxnode.specs.Holding.{Holding}
 use Rattle.sig_rxnode.specs.Journals.{Adds, Causes, Writes}
 

@@ -5,9 +5,9 @@ use Rattle.sig_json.specs.Answers.{result_map}
 use Rattle.sig_outside.specs.Disk.{Stop}
 use Rattle.sig_set.specs.declared.trust.Trust.{Trust}
 use Rattle.sig_receiver.specs.Receiver.{Received}
-use Rattle.sig_store.specs.Stored.{Stored}
-use Rattle.sig_store.specs.declared.fault.NodeFault.{NodeFault}
-use Rattle.sig_store.specs.declared.fault.NodeFault.TheVariants.{Store, Memory}
+use Rattle.sig_journal.specs.Stored.{Stored}
+use Rattle.sig_journal.specs.declared.node_fault.NodeFault.{NodeFault}
+use Rattle.sig_journal.specs.declared.node_fault.NodeFault.TheVariants.{Store, Memory}
 use Rattle.sig_rxnode.specs.declared.answer.RxAnswer.{RxAnswer}
 use Rattle.sig_rxnode.specs.declared.call.RxCall.{RxCall}
 use Rattle.sig_rxnode.specs.declared.journalled.Told.{Told}

@@ -15,8 +15,8 @@ use Rattle.sig_receiver.specs.Receiver.{Received, received_of}
 use Rattle.sig_receiver.specs.Taking.{text_taken}
 use Rattle.sig_receiver.proofs.JournalLemmas.{joins}
 use Rattle.sig_receiver.proofs.KeptLemmas.{none_more}
-use Rattle.sig_store.specs.Taking.{state_after}
-use Rattle.sig_store.proofs.LoadSteps.{not_taken, place_at, taken_up}
+use Rattle.sig_journal.specs.Taking.{state_after}
+use Rattle.sig_journal.proofs.LoadSteps.{not_taken, place_at, taken_up}
 use Rattle.sig_rxnode.specs.declared.recording.RecordFault.TheVariants.{Bad}
 use Rattle.sig_rxnode.specs.Records.{after_record, after_text, receiving, text_by, text_in, text_or_none, texts_of}
 

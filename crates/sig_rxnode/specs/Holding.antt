@@ -2,8 +2,8 @@
 use Rattle.std.specs.Prelude.{◌≡◌, ℕ, List, Bool, None}
 use Rattle.sig_journal.specs.Journal.{IsAtRest}
 use Rattle.sig_receiver.specs.Receiver.{Received, nothing, received_of}
-use Rattle.sig_store.specs.Standing.{StandsFor}
-use Rattle.sig_store.specs.Stored.{Stored}
+use Rattle.sig_journal.specs.Standing.{StandsFor}
+use Rattle.sig_journal.specs.Stored.{Stored}
 use Rattle.sig_rxnode.specs.Records.{receiving}
 
 pub record Holding (D : Type 0) : Type 0 where

@@ -4,11 +4,11 @@ use Rattle.sig_json.specs.declared.limits.TheConstants.{LAST_NUMBER}
 use Rattle.sig_outside.specs.Disk.{Stop}
 use Rattle.sig_entry.specs.Tokens.{token_spelling}
 use Rattle.sig_receiver.specs.Receiver.{received_of}
-use Rattle.sig_store.specs.Appended.{Breaks, HasRecord, LeavesRecord}
-use Rattle.sig_store.specs.Standing.{Durable}
-use Rattle.sig_store.specs.Stored.{Stored}
-use Rattle.sig_store.specs.declared.fault.NodeFault.{NodeFault}
-use Rattle.sig_store.specs.declared.fault.NodeFault.TheVariants.{Store, Full, Memory}
+use Rattle.sig_journal.specs.Appended.{Breaks, HasRecord, LeavesRecord}
+use Rattle.sig_journal.specs.Standing.{Durable}
+use Rattle.sig_journal.specs.Stored.{Stored}
+use Rattle.sig_journal.specs.declared.node_fault.NodeFault.{NodeFault}
+use Rattle.sig_journal.specs.declared.node_fault.NodeFault.TheVariants.{Store, Full, Memory}
 use Rattle.sig_rxnode.specs.Holding.{Holding}
 use Rattle.sig_rxnode.specs.Records.{receiving}
 use Rattle.sig_rxnode.specs.Turns.{end_after}

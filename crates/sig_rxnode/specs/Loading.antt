@@ -5,7 +5,7 @@ use Rattle.sig_journal.specs.declared.fault.LoadFault.TheVariants.{Memory, Store
 use Rattle.sig_journal.specs.declared.loaded.Loaded.{Loaded}
 use Rattle.sig_journal.specs.declared.loaded.LoadRefused.{LoadRefused}
 use Rattle.sig_journal.specs.Store.{Told}
-use Rattle.sig_store.specs.Taking.{loaded}
+use Rattle.sig_journal.specs.Taking.{loaded}
 use Rattle.sig_rxnode.specs.Holding.{Holding}
 use Rattle.sig_rxnode.specs.Records.{receiving, texts_of}
 

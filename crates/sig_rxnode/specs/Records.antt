@@ -5,7 +5,7 @@ use Rattle.sig_entry.specs.Tokens.{decoded_token}
 use Rattle.sig_receiver.specs.declared.take_fault.TakeFault.{TakeFault}
 use Rattle.sig_receiver.specs.Receiver.{Received, nothing, received_of}
 use Rattle.sig_receiver.specs.Taking.{text_taken}
-use Rattle.sig_store.specs.Taking.{Taking}
+use Rattle.sig_journal.specs.Taking.{Taking}
 use Rattle.sig_rxnode.specs.declared.recording.RecordFault.{RecordFault}
 use Rattle.sig_rxnode.specs.declared.recording.RecordFault.TheVariants.{Bad}
 

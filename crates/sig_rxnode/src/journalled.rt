@@ -2,20 +2,20 @@ ghost use Rattle.std.specs.Prelude.{◌≡◌, ◌<◌, ◌^◌, ◌∷◌, [], 
 ghost use Rattle.sig_entry.specs.Tokens.{token_spelling};
 ghost use Rattle.sig_receiver.specs.Receiver.{IsReady, committed, heard_at, received, received_of};
 ghost use Rattle.sig_json.specs.declared.limits.TheConstants.{ROWS_PER_PAGE};
-ghost use Rattle.sig_store.specs.declared.fault.NodeFault.TheVariants as node_fault;
+ghost use Rattle.sig_journal.specs.declared.node_fault.NodeFault.TheVariants as node_fault;
 ghost use Rattle.sig_rxnode.specs.Answers.{answer_of, change_of, heard_answer, heard_texts};
 ghost use Rattle.sig_rxnode.specs.declared.answer.RxAnswer.TheVariants.{Rows};
 ghost use Rattle.sig_rxnode.specs.Records.{receiving};
 
 use crate::recording::{Recorded, record_of};
 use crate::{RxAnswer, RxCall, RxFault};
+use sig_journal::Store;
 use sig_json::limits::ROWS_PER_PAGE;
 use sig_json::{Bytes, Text};
 use sig_outside::Disk;
 use sig_receiver::{Heard, Hearing, Ready, Receiver};
 use sig_sessions::Table;
 use sig_set::PreparedTrust;
-use sig_store::Store;
 use std::alloc::Global;
 
 /// A receiver whose tokens stand in the journal of a store, and the texts of these tokens.

@@ -3,7 +3,7 @@
 //!     call -> judged -> pair new? -> made ready, framed -> [journal] -> taken in -> turn kept -> answer
 //!     store that is loaded -> record -> token text -> pair new? -> taken in
 //!
-//! It stands on `sig_receiver` for what is answered and kept, on `sig_store` for the journal, and on `sig_entry` for the
+//! It stands on `sig_receiver` for what is answered and kept, on `sig_journal` for the journal, and on `sig_entry` for the
 //! records. Promised (`specs/Take`): `take` answers by the table (`specs/Answers`); a token that is answered `Accepted`
 //! stands in the journal, so that no crash takes it away, and has had its effect; a crash at any moment of a call leaves a
 //! store that loads to the state before or after it; a refusal has its cause, and changes nothing. What is kept is always
@@ -31,7 +31,7 @@ pub use answer::RxAnswer;
 pub use call::RxCall;
 pub use node::RxNode;
 pub use rules::{Peer, Principal, RxRules};
-pub use sig_store::NodeFault as RxFault;
+pub use sig_journal::NodeFault as RxFault;
 pub use state::RxState;
 pub use taker::RxTaker;
 pub use turn::RxTurn;

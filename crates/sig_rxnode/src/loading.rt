@@ -11,7 +11,7 @@ ghost use Rattle.sig_journal.specs.Opened.{Opens};
 ghost use Rattle.sig_journal.specs.Store.{file_number, in_file_at, pick, tells};
 ghost use Rattle.sig_json.specs.Answers.{Answers, result_map};
 ghost use Rattle.sig_receiver.specs.Receiver.{nothing, received, received_of};
-ghost use Rattle.sig_store.specs.Taking.{state_after};
+ghost use Rattle.sig_journal.specs.Taking.{state_after};
 ghost use Rattle.sig_rxnode.specs.Holding.{IsHolding};
 ghost use Rattle.sig_rxnode.specs.Loading.{LoadsTold, content_told};
 ghost use Rattle.sig_rxnode.specs.Parts.{holding_of};
@@ -19,11 +19,10 @@ ghost use Rattle.sig_rxnode.specs.Records.{receiving, texts_of};
 
 use crate::journalled::Journalled;
 use crate::recording::{RecordFault, take_record};
-use sig_journal::{Kind, LoadFault, LoadRefused, Loaded};
+use sig_journal::{Kind, LoadFault, LoadRefused, Loaded, Store};
 use sig_json::Bytes;
 use sig_outside::Disk;
 use sig_receiver::Receiver;
-use sig_store::Store;
 use std::alloc::Global;
 
 /// The receiver of the records of a store, and their token texts.

@@ -6,7 +6,7 @@ ghost use Rattle.sig_journal.specs.declared.fault.LoadFault.TheVariants as load_
 ghost use Rattle.sig_journal.specs.declared.kind.Kind.TheVariants.{Rx};
 ghost use Rattle.sig_journal.specs.OnlyRead.{OnlyRead};
 ghost use Rattle.sig_journal.specs.Store.{pick, tells};
-ghost use Rattle.sig_store.specs.Stored.{IsStored, SameJournal};
+ghost use Rattle.sig_journal.specs.Stored.{IsStored, SameJournal};
 ghost use Rattle.sig_rxnode.specs.Holding.{IsHolding};
 ghost use Rattle.sig_rxnode.specs.Parts.{holding_of};
 ghost use Rattle.sig_rxnode.specs.Take.{KeepsTurn};
@@ -43,7 +43,7 @@ impl<D: Disk> Model for RxNode<D> {
 }
 
 impl<D: Disk> RxNode<D> {
-    ghost use Rattle.sig_store.specs.Appended.{WritesOne};
+    ghost use Rattle.sig_journal.specs.Appended.{WritesOne};
     ghost use Rattle.sig_rxnode.specs.Journals.{Writes};
     ghost use Rattle.sig_rxnode.specs.Loading.{LoadsTold};
     ghost use Rattle.sig_rxnode.specs.Node.{IsHistory, base_of, begun, kept_by};

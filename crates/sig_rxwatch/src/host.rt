@@ -5,7 +5,7 @@ use sig_links::{Link, Side};
 use sig_outside::Disk;
 use sig_rxlink::{RxLinkLog, serve_link};
 use sig_rxnode::RxRules;
-use sig_threads::Host;
+use sig_watch::Host;
 use std::alloc::Global;
 use std::sync::{Mutex, Wait};
 

@@ -4,7 +4,7 @@ use Rattle.sig_journal.specs.declared.fault.LoadFault.{LoadFault}
 use Rattle.sig_journal.specs.declared.kind.Kind.TheVariants.{Tx}
 use Rattle.sig_journal.specs.Store.{tells}
 use Rattle.sig_history.specs.Owed.{Sum}
-use Rattle.sig_store.specs.Taking.{loaded}
+use Rattle.sig_journal.specs.Taking.{loaded}
 use Rattle.sig_txnode.specs.Records.{sending}
 use Rattle.sig_txsettings.specs.declared.settings.TxSettings.{TxSettings}
 use Rattle.sig_txsettings.specs.Settings.{tx_settings_of}

@@ -12,7 +12,7 @@ use Rattle.sig_txnode.specs.Turns.{AreTrue, changes_of}
 use Rattle.sig_txwatch.specs.Serving.{ServesOne}
 use Rattle.sig_serving.specs.Stops.{is_shut}
 use Rattle.sig_serving.specs.declared.stop.Stop.{Stop}
-use Rattle.sig_threads.specs.Attending.{Attends}
+use Rattle.sig_watch.specs.Attending.{Attends}
 use Rattle.sig_watch.specs.declared.report.Report.{Report}
 
 -- a watch: what it reports, the node's turns in order, the facts that these made, and what differs between the two, if anything

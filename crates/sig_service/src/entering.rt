@@ -2,8 +2,7 @@
 
 use crate::running::run;
 use sig_program::{after_name, start, words};
-use sig_standard::{ReaderSource, WriterSink};
-use sig_tcp::SystemOutside;
+use sig_system::{ReaderSource, SystemOutside, WriterSink};
 use std::process::ExitCode;
 use std::sync::Wait;
 use std::thread::Threads;

@@ -16,8 +16,8 @@ use Rattle.sig_journal.specs.Journal.{BothTold, IsAtRest, Open, Stands, image_st
 use Rattle.sig_journal.specs.Layout.{Content, end_of}
 use Rattle.sig_journal.specs.OnlyRead.{OnlyRead}
 use Rattle.sig_journal.specs.Store.{Told, pick, tells, with_record}
-use Rattle.sig_store.specs.Appended.{LeavesRecord, WritesOne}
-use Rattle.sig_store.specs.Stored.{Stored}
+use Rattle.sig_journal.specs.Appended.{LeavesRecord, WritesOne}
+use Rattle.sig_journal.specs.Stored.{Stored}
 use Rattle.sig_still.specs.Still.{faults, is_short, moment, rest, stop, tells_file}
 use Rattle.sig_still.specs.Stores.{HoldsStore, Reads, ReadsBoth, end_at, store_of, with_kept}
 

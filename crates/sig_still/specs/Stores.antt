@@ -6,7 +6,7 @@ use Rattle.sig_journal.specs.Journal.{IsAtRest, told_store}
 use Rattle.sig_journal.specs.Layout.{end_of}
 use Rattle.sig_journal.specs.OnlyRead.{OnlyRead}
 use Rattle.sig_journal.specs.Store.{Told}
-use Rattle.sig_store.specs.Stored.{Stored}
+use Rattle.sig_journal.specs.Stored.{Stored}
 use Rattle.sig_still.specs.Still.{faults, moment, tells_file}
 
 -- what a store of this name with these records tells; the first file is in force

@@ -1,6 +1,6 @@
 //! Disks in memory that stand still where they are asked to, and stores over two of them.
 //!
-//! It stands on `sig_outside` for disks in memory, on `sig_journal` for what a store of two files is, and on `sig_store`
+//! It stands on `sig_outside` for disks in memory, on `sig_journal` for what a store of two files is, and on `sig_journal`
 //! for the store as a node holds it.
 //!
 //!     store --stop after so many calls--> record is added, or not --crash--> what both files rest with --> store

@@ -1,8 +1,11 @@
 pub mod FoundLemmas
+pub mod HandingLemmas
+pub mod MadeLemmas
+pub mod MakingLemmas
 pub mod OfferedLemmas
 pub mod PageLemmas
 pub mod PolledLemmas
-pub mod HandingLemmas
 pub mod SettlingLemmas
-pub mod MadeLemmas
+pub mod SizeLemmas
+pub mod TokenLemmas
 pub mod VerdictLemmas

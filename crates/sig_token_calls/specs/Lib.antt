@@ -1,4 +1,6 @@
+pub mod Handing
 pub mod Offering
 pub mod Replies
-pub mod Handing
+pub mod Sizes
+pub mod Tokens
 pub mod Verdicts

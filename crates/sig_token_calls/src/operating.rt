@@ -11,10 +11,10 @@ ghost use Rattle.sig_ledger.specs.Steps.{reply_in};
 ghost use Rattle.sig_terms.specs.declared.answer.Answer.TheVariants as answer;
 ghost use Rattle.sig_terms.specs.declared.fact.Fact.TheVariants as fact;
 
+use crate::make;
 use sig_event::Status;
 use sig_json::{Memory, Text, copy_optional};
 use sig_ledger::{Account, Ledger, Step};
-use sig_making::make;
 use sig_terms::{Answer, Fact, PrepareFault};
 use std::alloc::Global;
 

@@ -11,10 +11,10 @@ ghost use Rattle.sig_ledger.specs.Room.{HasRoom};
 ghost use Rattle.sig_ledger.specs.Steps.{reply_in};
 ghost use Rattle.sig_token_calls.specs.Replies.{later_answer};
 
+use crate::make;
 use sig_event::{News, event_text};
 use sig_json::{Memory, Text};
 use sig_ledger::{Ledger, Publication, Step};
-use sig_making::make;
 use sig_subject::identical;
 use sig_terms::{Answer, Fact, PrepareFault};
 use std::alloc::Global;

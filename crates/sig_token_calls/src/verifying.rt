@@ -12,10 +12,10 @@ ghost use Rattle.sig_ledger.specs.Room.{HasRoom};
 ghost use Rattle.sig_ledger.specs.Steps.{reply_in};
 ghost use Rattle.sig_token_calls.specs.Replies as replies;
 
+use crate::make;
 use sig_event::Status;
 use sig_json::{Memory, Text, copy_optional};
 use sig_ledger::{Account, Ledger, Step};
-use sig_making::make;
 use sig_terms::{Answer, Fact, PrepareFault};
 use std::alloc::Global;
 

@@ -22,7 +22,7 @@ mod turns;
 
 use crate::turns::Turns;
 use sig_lines::run;
-use sig_standard::{ReaderSource, WriterSink};
+use sig_system::{ReaderSource, WriterSink};
 use std::process::ExitCode;
 
 // The status of a run for which memory runs out.

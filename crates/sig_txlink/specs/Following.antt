@@ -4,7 +4,7 @@ use Rattle.sig_push.specs.declared.fault.PushFault.{PushFault}
 use Rattle.sig_serving.specs.Side.{SideView}
 use Rattle.sig_round.specs.Rounds.{IsRound}
 use Rattle.sig_round.specs.Turns.{Adds, Asker, Grew}
-use Rattle.sig_store.specs.declared.fault.NodeFault.{NodeFault}
+use Rattle.sig_journal.specs.declared.node_fault.NodeFault.{NodeFault}
 use Rattle.sig_terms.specs.declared.answer.Answer.{Answer}
 use Rattle.sig_terms.specs.declared.answer.Answer.TheVariants.{Published, Asked, State, Delivering}
 use Rattle.sig_terms.specs.declared.rules.Rules.{Rules}

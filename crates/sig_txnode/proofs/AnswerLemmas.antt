@@ -17,8 +17,8 @@ use Rattle.sig_calls.specs.Proper.{IsProperCall, IsProperRules}
 use Rattle.sig_calls.specs.Table.{change_of, prepared_of, told_of}
 use Rattle.sig_calls.proofs.RegularLemmas.{calls_regular}
 use Rattle.sig_calls.proofs.ReplyLemmas.{reply_of}
-use Rattle.sig_store.specs.declared.fault.NodeFault.{NodeFault}
-use Rattle.sig_store.specs.declared.fault.NodeFault.TheVariants.{Store, Full, Memory}
+use Rattle.sig_journal.specs.declared.node_fault.NodeFault.{NodeFault}
+use Rattle.sig_journal.specs.declared.node_fault.NodeFault.TheVariants.{Store, Full, Memory}
 use Rattle.sig_txnode.specs.Answering.{Answered, IsAnswerTo, IsAnswered, answer_at, answer_with, sum_after, when_ok}
 use Rattle.sig_txnode.specs.Planned.{refused_as}
 

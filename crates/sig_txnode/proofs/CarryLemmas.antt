@@ -14,13 +14,13 @@ use Rattle.sig_terms.specs.declared.fact.Fact.{Fact}
 use Rattle.sig_history.specs.Owed.{Sum, sum_of}
 use Rattle.sig_history.specs.Sound.{Fits}
 use Rattle.sig_entry.specs.Facts.{spelling_of}
-use Rattle.sig_store.specs.declared.fault.NodeFault.{NodeFault}
-use Rattle.sig_store.specs.declared.fault.NodeFault.TheVariants.{Store, Full, Memory}
-use Rattle.sig_store.specs.Appended.{AppendCauses, Breaks, HasRecord, LeavesRecord}
-use Rattle.sig_store.specs.Faults.{fault_of}
-use Rattle.sig_store.specs.Standing.{Durable, Loads, LoadsEither, StandsFor}
-use Rattle.sig_store.specs.Stored.{IsStored, Stored}
-use Rattle.sig_store.specs.Taking.{loaded}
+use Rattle.sig_journal.specs.declared.node_fault.NodeFault.{NodeFault}
+use Rattle.sig_journal.specs.declared.node_fault.NodeFault.TheVariants.{Store, Full, Memory}
+use Rattle.sig_journal.specs.Appended.{AppendCauses, Breaks, HasRecord, LeavesRecord}
+use Rattle.sig_journal.specs.Faults.{fault_of}
+use Rattle.sig_journal.specs.Standing.{Durable, Loads, LoadsEither, StandsFor}
+use Rattle.sig_journal.specs.Stored.{IsStored, Stored}
+use Rattle.sig_journal.specs.Taking.{loaded}
 use Rattle.sig_terms.specs.declared.answer.Answer.{Answer}
 use Rattle.sig_txnode.specs.Answering.{IsAnswered, end_with, sum_after, where_room}
 use Rattle.sig_txnode.specs.Records.{IsRecordOf, after_record, sending}

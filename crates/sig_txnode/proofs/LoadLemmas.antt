@@ -14,8 +14,8 @@ use Rattle.sig_history.proofs.WholeLemmas.{whole_after}
 use Rattle.sig_outbox.specs.declared.applying.ApplyFault.{ApplyFault}
 use Rattle.sig_outbox.specs.declared.applying.ApplyFault.TheVariants.{Bad, Memory}
 use Rattle.sig_outbox.specs.State.{taken_where}
-use Rattle.sig_store.specs.Taking.{state_after}
-use Rattle.sig_store.proofs.LoadSteps.{not_taken, taken_up}
+use Rattle.sig_journal.specs.Taking.{state_after}
+use Rattle.sig_journal.proofs.LoadSteps.{not_taken, taken_up}
 use Rattle.sig_txnode.specs.Records.{after_record}
 
 -- ---- one record

@@ -14,11 +14,11 @@ use Rattle.sig_history.specs.Whole.{IsWhole}
 use Rattle.sig_calls.specs.Proper.{IsProperCall, IsProperRules}
 use Rattle.sig_calls.specs.Table.{change_of}
 use Rattle.sig_entry.specs.Facts.{spelling_of}
-use Rattle.sig_store.specs.Appended.{Breaks, HasRecord}
-use Rattle.sig_store.specs.declared.fault.NodeFault.{NodeFault}
-use Rattle.sig_store.specs.declared.fault.NodeFault.TheVariants.{Store, Full, Memory}
-use Rattle.sig_store.specs.Standing.{StandsFor}
-use Rattle.sig_store.specs.Stored.{Stored}
+use Rattle.sig_journal.specs.Appended.{Breaks, HasRecord}
+use Rattle.sig_journal.specs.declared.node_fault.NodeFault.{NodeFault}
+use Rattle.sig_journal.specs.declared.node_fault.NodeFault.TheVariants.{Store, Full, Memory}
+use Rattle.sig_journal.specs.Standing.{StandsFor}
+use Rattle.sig_journal.specs.Stored.{Stored}
 use Rattle.sig_txnode.specs.declared.turn.Turn.{Turn}
 use Rattle.sig_txnode.specs.Answering.{Answered, IsAnswered, answer_at, sum_after, when_ok}
 use Rattle.sig_txnode.specs.Node.{IsNode, NodeView}

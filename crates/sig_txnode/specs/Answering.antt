@@ -11,8 +11,8 @@ use Rattle.sig_terms.specs.Reply.{Reply}
 use Rattle.sig_history.specs.Owed.{Sum, sum_of}
 use Rattle.sig_calls.specs.Table.{prepared_of}
 use Rattle.sig_entry.specs.Facts.{spelling_of}
-use Rattle.sig_store.specs.declared.fault.NodeFault.{NodeFault}
-use Rattle.sig_store.specs.declared.fault.NodeFault.TheVariants.{Store, Full, Memory}
+use Rattle.sig_journal.specs.declared.node_fault.NodeFault.{NodeFault}
+use Rattle.sig_journal.specs.declared.node_fault.NodeFault.TheVariants.{Store, Full, Memory}
 
 -- a clock's value, where one above LAST_NUMBER counts as that
 abbrev pub time_used : ℕ → ℕ

@@ -3,7 +3,7 @@ use Rattle.std.specs.Prelude.{◌≡◌, Option, Result}
 use Rattle.sig_json.specs.Answers.{result_map}
 use Rattle.sig_terms.specs.declared.answer.Answer.{Answer}
 use Rattle.sig_terms.specs.declared.fact.Fact.{Fact}
-use Rattle.sig_store.specs.declared.fault.NodeFault.{NodeFault}
+use Rattle.sig_journal.specs.declared.node_fault.NodeFault.{NodeFault}
 use Rattle.sig_txnode.specs.declared.carrying.Given.{Given}
 
 -- the answer

@@ -7,8 +7,8 @@ use Rattle.sig_history.specs.Whole.{IsWhole}
 use Rattle.sig_calls.specs.Proper.{IsProperRules}
 use Rattle.sig_journal.specs.declared.kind.Kind.TheVariants.{Tx}
 use Rattle.sig_journal.specs.Store.{pick}
-use Rattle.sig_store.specs.Standing.{StandsFor}
-use Rattle.sig_store.specs.Stored.{Stored}
+use Rattle.sig_journal.specs.Standing.{StandsFor}
+use Rattle.sig_journal.specs.Stored.{Stored}
 use Rattle.sig_txnode.specs.declared.turn.Turn.{Turn}
 use Rattle.sig_txnode.specs.Records.{sending}
 use Rattle.sig_txnode.specs.Turns.{AreTrue, BrokeAt, after_turns, changes_of, ends_after}

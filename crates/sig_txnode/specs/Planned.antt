@@ -5,8 +5,8 @@ use Rattle.sig_terms.specs.declared.fault.PrepareFault.{PrepareFault}
 use Rattle.sig_terms.specs.declared.fault.PrepareFault.TheVariants as prepare
 use Rattle.sig_terms.specs.Reply.{Reply}
 use Rattle.sig_ledger.specs.Room.{Ready}
-use Rattle.sig_store.specs.declared.fault.NodeFault.{NodeFault}
-use Rattle.sig_store.specs.declared.fault.NodeFault.TheVariants.{Full, Memory}
+use Rattle.sig_journal.specs.declared.node_fault.NodeFault.{NodeFault}
+use Rattle.sig_journal.specs.declared.node_fault.NodeFault.TheVariants.{Full, Memory}
 use Rattle.sig_txnode.specs.declared.plan.Change.{Change}
 use Rattle.sig_txnode.specs.declared.plan.Plan.{Plan}
 use Rattle.sig_txnode.specs.Records.{IsRecordOf}

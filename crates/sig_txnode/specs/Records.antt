@@ -5,7 +5,7 @@ use Rattle.sig_terms.specs.declared.fact.Fact.{Fact}
 use Rattle.sig_history.specs.Owed.{Sum, empty_sum, sum_of}
 use Rattle.sig_history.specs.Sound.{is_fitting}
 use Rattle.sig_entry.specs.Facts.{decoded, spelling_of}
-use Rattle.sig_store.specs.Taking.{Taking}
+use Rattle.sig_journal.specs.Taking.{Taking}
 
 -- the state after a fact, where it fits what the facts before it come to
 abbrev pub after_fact : Sum → Fact → Option Sum

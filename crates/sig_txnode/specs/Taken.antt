@@ -5,12 +5,12 @@ use Rattle.sig_json.specs.declared.limits.TheConstants.{LAST_NUMBER}
 use Rattle.sig_outside.specs.Disk.{LeavesOnly, Stop}
 use Rattle.sig_journal.specs.Added.{RestsWith}
 use Rattle.sig_journal.specs.Journal.{BothTold, IsAtRest, told_store}
-use Rattle.sig_store.specs.Appended.{Breaks, HasRecord, LeavesRecord, WritesOne}
-use Rattle.sig_store.specs.declared.fault.NodeFault.{NodeFault}
-use Rattle.sig_store.specs.declared.fault.NodeFault.TheVariants.{Store, Full, Memory}
-use Rattle.sig_store.specs.Standing.{Loads, LoadsEither}
-use Rattle.sig_store.specs.Stored.{SameJournal, Stored}
-use Rattle.sig_store.specs.Taking.{loaded}
+use Rattle.sig_journal.specs.Appended.{Breaks, HasRecord, LeavesRecord, WritesOne}
+use Rattle.sig_journal.specs.declared.node_fault.NodeFault.{NodeFault}
+use Rattle.sig_journal.specs.declared.node_fault.NodeFault.TheVariants.{Store, Full, Memory}
+use Rattle.sig_journal.specs.Standing.{Loads, LoadsEither}
+use Rattle.sig_journal.specs.Stored.{SameJournal, Stored}
+use Rattle.sig_journal.specs.Taking.{loaded}
 use Rattle.sig_terms.specs.declared.answer.Answer.{Answer}
 use Rattle.sig_terms.specs.declared.call.Call.{Call}
 use Rattle.sig_terms.specs.declared.fact.Fact.{Fact}

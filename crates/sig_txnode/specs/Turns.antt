@@ -8,8 +8,8 @@ use Rattle.sig_terms.specs.declared.rules.Rules.{Rules}
 use Rattle.sig_history.specs.Owed.{Sum, sum_of}
 use Rattle.sig_history.specs.Whole.{IsWhole}
 use Rattle.sig_calls.specs.Table.{change_of}
-use Rattle.sig_store.specs.declared.fault.NodeFault.{NodeFault}
-use Rattle.sig_store.specs.declared.fault.NodeFault.TheVariants.{Store, Full, Memory}
+use Rattle.sig_journal.specs.declared.node_fault.NodeFault.{NodeFault}
+use Rattle.sig_journal.specs.declared.node_fault.NodeFault.TheVariants.{Store, Full, Memory}
 use Rattle.sig_txnode.specs.declared.turn.Turn.{Turn}
 use Rattle.sig_txnode.specs.Answering.{answer_at, end_with, sum_after, when_ok}
 

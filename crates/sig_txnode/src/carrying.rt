@@ -5,8 +5,8 @@ ghost use Rattle.sig_json.specs.declared.limits.TheConstants.{LAST_NUMBER};
 ghost use Rattle.sig_calls.specs.Proper.{IsProperCall, IsProperRules};
 ghost use Rattle.sig_calls.specs.Table.{change_of};
 ghost use Rattle.sig_outbox.specs.State.{IsReady};
-ghost use Rattle.sig_store.specs.Standing.{StandsFor};
-ghost use Rattle.sig_store.specs.Stored.{IsStored};
+ghost use Rattle.sig_journal.specs.Standing.{StandsFor};
+ghost use Rattle.sig_journal.specs.Stored.{IsStored};
 ghost use Rattle.sig_txnode.specs.Answering.{Answered, answer_at, end_with, sum_after, when_ok, where_room};
 ghost use Rattle.sig_txnode.specs.Given.{KeepsChange, answer_in};
 ghost use Rattle.sig_txnode.specs.Planned.{IsKept, fact_in, ready_in};
@@ -14,10 +14,9 @@ ghost use Rattle.sig_txnode.specs.Records.{IsRecordOf, sending};
 ghost use Rattle.sig_txnode.specs.Taken.{Lasts, Refused};
 
 use crate::plan::{Change, Plan, plan_for};
-use sig_journal::Framed;
+use sig_journal::{Framed, NodeFault, Store};
 use sig_outbox::{Outbox, Prepared};
 use sig_outside::Disk;
-use sig_store::{NodeFault, Store};
 use sig_terms::{Answer, Call, Fact, Rules};
 use std::alloc::Global;
 

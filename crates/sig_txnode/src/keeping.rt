@@ -4,7 +4,7 @@ ghost use Rattle.std.specs.Prelude.{◌≡◌, ◌+◌, ◌<◌, ◌++◌, lengt
 ghost use Rattle.std.specs.Option.{option_to_list};
 ghost use Rattle.sig_calls.specs.Proper.{IsProperCall, IsProperRules};
 ghost use Rattle.sig_calls.specs.Table.{change_of};
-ghost use Rattle.sig_store.specs.Standing.{StandsFor};
+ghost use Rattle.sig_journal.specs.Standing.{StandsFor};
 ghost use Rattle.sig_txnode.specs.Answering.{Answered, answer_at, when_ok};
 ghost use Rattle.sig_txnode.specs.Records.{sending};
 ghost use Rattle.sig_txnode.specs.Taken.{Lasts, Refused};
@@ -12,10 +12,10 @@ ghost use Rattle.sig_txnode.specs.Turns.{with_turn};
 
 use crate::Turn;
 use crate::carrying::{Given, answer_call};
+use sig_journal::{NodeFault, Store};
 use sig_json::Memory;
 use sig_outbox::Outbox;
 use sig_outside::Disk;
-use sig_store::{NodeFault, Store};
 use sig_terms::{Answer, Call, Fact, Rules};
 use std::alloc::Global;
 

@@ -1,6 +1,6 @@
 //! The transmitter's node: its state, and the journal that keeps it (OpenID Shared Signals Framework 1.0, sections 7 and 8).
 //!
-//! It stands on `sig_outbox` for how calls are answered, on `sig_entry` for the records of facts, and on `sig_store` for the
+//! It stands on `sig_outbox` for how calls are answered, on `sig_entry` for the records of facts, and on `sig_journal` for the
 //! journal over two files and for what such a store stands for.
 //!
 //!     call -> answer and fact -> record -> room for all of it -> [journal] -> state with the fact -> turn
@@ -28,7 +28,6 @@ mod turn;
 mod watched;
 
 pub use node::TxNode;
-pub use sig_journal::{LoadFault, LoadRefused};
-pub use sig_store::NodeFault as TxFault;
+pub use sig_journal::{LoadFault, LoadRefused, NodeFault as TxFault};
 pub use taker::Taker;
 pub use turn::Turn;

@@ -7,7 +7,7 @@ ghost use Rattle.sig_history.specs.Whole.{IsWhole};
 ghost use Rattle.sig_journal.specs.Layout.{places_of};
 ghost use Rattle.sig_journal.specs.Store.{in_file_at};
 ghost use Rattle.sig_entry.specs.Facts.{decoded};
-ghost use Rattle.sig_store.specs.Taking.{state_after};
+ghost use Rattle.sig_journal.specs.Taking.{state_after};
 ghost use Rattle.sig_txnode.specs.Records.{after_record, sending};
 
 use sig_entry::{DecodeFault, decode};

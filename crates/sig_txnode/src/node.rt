@@ -11,19 +11,18 @@ ghost use Rattle.sig_journal.specs.Layout.{places_of};
 ghost use Rattle.sig_journal.specs.Opened.{Opens};
 ghost use Rattle.sig_journal.specs.OnlyRead.{OnlyRead};
 ghost use Rattle.sig_journal.specs.Store.{file_number, pick, tells};
-ghost use Rattle.sig_store.specs.Taking as taking;
+ghost use Rattle.sig_journal.specs.Taking as taking;
 ghost use Rattle.sig_txnode.specs.Loaded.{Begins, state_by, told_of};
 ghost use Rattle.sig_txnode.specs.Records.{sending};
 
 use crate::Turn;
 use crate::keeping::{Held, take_turn};
 use crate::loading::state_in;
-use sig_journal::{Kind, LoadFault, LoadRefused, Loaded};
+use sig_journal::{Kind, LoadFault, LoadRefused, Loaded, NodeFault, Store};
 use sig_json::Memory;
 use sig_json::limits::LAST_NUMBER;
 use sig_outbox::Outbox;
 use sig_outside::Disk;
-use sig_store::{NodeFault, Store};
 use sig_terms::{Answer, Call, Fact, Rules};
 use std::alloc::Global;
 use std::marker::Model;
@@ -53,8 +52,8 @@ impl<D: Disk> Model for TxNode<D> {
 impl<D: Disk> TxNode<D> {
     ghost use Rattle.sig_calls.specs.Proper.{IsProperCall};
     ghost use Rattle.sig_calls.specs.Table.{change_of};
-    ghost use Rattle.sig_store.specs.Standing.{StandsFor};
-    ghost use Rattle.sig_store.specs.Stored.{IsStored};
+    ghost use Rattle.sig_journal.specs.Standing.{StandsFor};
+    ghost use Rattle.sig_journal.specs.Stored.{IsStored};
     ghost use Rattle.sig_txnode.specs.Answering.{Answered, answer_at, time_used};
     ghost use Rattle.sig_txnode.specs.Loaded.{GivesState};
     ghost use Rattle.sig_txnode.specs.Node.{IsNode, begun};

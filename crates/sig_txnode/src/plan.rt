@@ -8,10 +8,9 @@ ghost use Rattle.sig_outbox.specs.State.{IsReady};
 ghost use Rattle.sig_txnode.specs.Planned.{IsKept, IsRecorded, ready_in, refused_as, reply_with};
 
 use crate::records::recorded;
-use sig_journal::Framed;
+use sig_journal::{Framed, NodeFault};
 use sig_json::Memory;
 use sig_outbox::{Outbox, Prepared, Step};
-use sig_store::NodeFault;
 use sig_terms::{Answer, Call, Fact, PrepareFault, Rules};
 use std::alloc::Global;
 

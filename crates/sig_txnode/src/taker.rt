@@ -5,8 +5,8 @@ ghost use Rattle.sig_txnode.specs.Node.{files_told};
 ghost use Rattle.sig_txnode.specs.Told.{KeepsTurn, TakerTold};
 
 use crate::TxNode;
+use sig_journal::NodeFault;
 use sig_outside::Disk;
-use sig_store::NodeFault;
 use sig_terms::{Answer, Call};
 use std::sync::Wait;
 

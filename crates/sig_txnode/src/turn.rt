@@ -1,8 +1,8 @@
 ghost use Rattle.std.specs.Prelude.{◌≡◌, ◌↔◌, IfOk, IsTrue};
 
+use sig_journal::NodeFault;
 use sig_json::{Copied, Memory, Same};
 use sig_logs::LinkTurn;
-use sig_store::NodeFault;
 use sig_terms::{Answer, Call};
 use std::alloc::Global;
 

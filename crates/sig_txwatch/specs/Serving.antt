@@ -1,7 +1,7 @@
 -- How one link of a watch is served, and what its log is compared with.
 use Rattle.std.specs.Prelude.{◌≡◌, ℕ, List, [], None}
 use Rattle.sig_terms.specs.declared.rules.Rules.{Rules}
-use Rattle.sig_threads.specs.Sights.{Sight}
+use Rattle.sig_watch.specs.Sights.{Sight}
 use Rattle.sig_txlink.specs.Moment.{desk_of, moment}
 use Rattle.sig_txlink.specs.Serving as link
 use Rattle.sig_txlink.specs.declared.log.LinkLog.{LinkLog}

@@ -4,8 +4,8 @@ use crate::shared::{Locked, Opened, Shared};
 use sig_links::{Link, Side};
 use sig_outside::Disk;
 use sig_terms::Rules;
-use sig_threads::Host;
 use sig_txlink::{LinkLog, serve_link};
+use sig_watch::Host;
 use std::alloc::Global;
 use std::sync::{Mutex, Wait};
 

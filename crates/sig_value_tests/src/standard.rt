@@ -1,7 +1,7 @@
 //! What the adapters do over a reader and a writer that are interrupted. Each program reads and writes by them.
 
 use sig_outside::{Sink, Source};
-use sig_standard::{ReaderSource, WriterSink};
+use sig_system::{ReaderSource, WriterSink};
 use std::io;
 use std::io::{ErrorKind, Read, Write};
 use std::test::Fail;

@@ -3,7 +3,7 @@
 use sig_json::Text;
 use sig_links::{Accepted, Door, Link, Outside, Side};
 use sig_outside::{Failed, Place, Sink, Source};
-use sig_tcp::{OutsideFault, SystemOutside};
+use sig_system::{OutsideFault, SystemOutside};
 use std::net::TcpListener;
 use std::test::Fail;
 

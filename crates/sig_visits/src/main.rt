@@ -22,7 +22,7 @@ mod visits;
 
 use crate::visits::Visits;
 use sig_lines::run;
-use sig_standard::{ReaderSource, WriterSink};
+use sig_system::{ReaderSource, WriterSink};
 use std::process::ExitCode;
 
 fn main(rt: HostRuntime) -> ExitCode {

@@ -3,9 +3,9 @@ use Rattle.std.proofs.Common.{◌≡◌, ℕ, ◌+◌, ◌<◌, List, [], ◌∷
 use Rattle.sig_serving.specs.Door.{DoorView}
 use Rattle.sig_serving.specs.declared.stop.Stop.{Stop}
 use Rattle.sig_serving.specs.declared.stop.Stop.TheVariants.{Failed}
-use Rattle.sig_threads.specs.Accepting.{Accepts}
-use Rattle.sig_threads.specs.Attending.{Attends}
-use Rattle.sig_threads.specs.Sights.{Sight}
+use Rattle.sig_watch.specs.Accepting.{Accepts}
+use Rattle.sig_watch.specs.Attending.{Attends}
+use Rattle.sig_watch.specs.Sights.{Sight}
 
 accepts_failed : (count : ℕ) (came : List Sight) (old new : DoorView) → Accepts Failed count came old new → 0 < new.faults
 accepts_failed count [] old new h = omega (arith, h.1.cause.1)

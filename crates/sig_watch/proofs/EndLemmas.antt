@@ -3,8 +3,8 @@ use Rattle.std.proofs.Common.{◌≡◌, ℕ, Bool, List, sym, subst}
 use Rattle.sig_serving.specs.Door.{DoorView}
 use Rattle.sig_serving.specs.Stops.{is_shut}
 use Rattle.sig_serving.specs.declared.stop.Stop.{Stop}
-use Rattle.sig_threads.specs.Attending.{Attends}
-use Rattle.sig_threads.specs.Sights.{Sight}
+use Rattle.sig_watch.specs.Attending.{Attends}
+use Rattle.sig_watch.specs.Sights.{Sight}
 use Rattle.sig_watch.specs.Ends.{EndsBy, IfReport, WhyEnded}
 use Rattle.sig_watch.specs.declared.report.Report.{Report}
 use Rattle.sig_watch.specs.declared.report.WatchEnd.{WatchEnd}

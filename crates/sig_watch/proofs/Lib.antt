@@ -1,2 +1,5 @@
+pub mod AcceptLemmas
 pub mod DoorLemmas
 pub mod EndLemmas
+pub mod ReturnLemmas
+pub mod WatchLemmas

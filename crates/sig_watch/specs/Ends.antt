@@ -5,8 +5,8 @@ use Rattle.sig_serving.specs.Door.{DoorView}
 use Rattle.sig_serving.specs.Stops.{is_shut}
 use Rattle.sig_serving.specs.declared.stop.Stop.{Stop}
 use Rattle.sig_serving.specs.declared.stop.Stop.TheVariants.{Failed}
-use Rattle.sig_threads.specs.Attending.{Attends}
-use Rattle.sig_threads.specs.Sights.{Sight}
+use Rattle.sig_watch.specs.Attending.{Attends}
+use Rattle.sig_watch.specs.Sights.{Sight}
 use Rattle.sig_watch.specs.declared.report.Report.{Report}
 use Rattle.sig_watch.specs.declared.report.WatchEnd.{WatchEnd}
 use Rattle.sig_watch.specs.declared.report.WatchEnd.TheVariants.{Done, DoorFault, Broken, Disagree, Memory}

@@ -1,1 +1,6 @@
+pub mod Accepting
+pub mod Attending
 pub mod Ends
+pub mod Finished
+pub mod Returning
+pub mod Sights

@@ -2,10 +2,9 @@ ghost use Rattle.std.specs.Prelude.{◌≡◌};
 ghost use Rattle.sig_serving.specs.Stops.{is_shut};
 ghost use Rattle.sig_watch.specs.Ends.{EndsBy, IfReport, IsReported};
 
-use crate::{Report, WatchEnd};
+use crate::{Attended, Report, WatchEnd};
 use sig_logs::{Logged, Watched, differ};
 use sig_serving::Stop;
-use sig_threads::Attended;
 
 /// The end of a watch over this node, whose links came to this. The logs are compared before every other end is chosen.
 pub fn end_of<N: Watched, G: Logged<Turn = N::Turn>>(

@@ -26,7 +26,7 @@ use Rattle.sig_subject.specs.declared.subject.Subject.{Subject}
 use Rattle.sig_set.specs.Written.{token_text}
 use Rattle.sig_jws.specs.declared.key.Key.{Key}
 use Rattle.sig_rxnode.specs.declared.rules.RxRules.{RxRules}
-use Rattle.sig_store.specs.declared.fault.NodeFault.TheVariants as fault
+use Rattle.sig_journal.specs.declared.node_fault.NodeFault.TheVariants as fault
 use Rattle.sig_terms.specs.declared.answer.Answer.{Answer}
 use Rattle.sig_terms.specs.declared.call.Call.{Call}
 use Rattle.sig_terms.specs.declared.fact.Fact.{Fact}

@@ -10,8 +10,8 @@ use Rattle.sig_command.specs.declared.stop.Stop.TheVariants as stop
 use Rattle.sig_command.specs.declared.stop.TellFault.{TellFault}
 use Rattle.sig_command.specs.declared.stop.TellFault.TheVariants as tell
 use Rattle.sig_outside.specs.KeptDisk.{Kept}
-use Rattle.sig_store.specs.declared.fault.NodeFault.{NodeFault}
-use Rattle.sig_store.specs.declared.fault.NodeFault.TheVariants as node
+use Rattle.sig_journal.specs.declared.node_fault.NodeFault.{NodeFault}
+use Rattle.sig_journal.specs.declared.node_fault.NodeFault.TheVariants as node
 use Rattle.sig_txnode.specs.Node as sends
 use Rattle.sig_rxnode.specs.Node as hears
 use Rattle.sig_rxnode.specs.declared.answer.RxAnswer.{RxAnswer}

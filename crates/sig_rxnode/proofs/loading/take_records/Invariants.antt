@@ -1,7 +1,7 @@
 use Rattle.std.proofs.Common.{◌≡◌, ℕ, ◌+◌, take, drop}
 use Rattle.sig_journal.specs.Layout.{records_size}
 use Rattle.sig_receiver.specs.Receiver.{nothing, received}
-use Rattle.sig_store.specs.Taking.{state_after}
+use Rattle.sig_journal.specs.Taking.{state_after}
 use Rattle.sig_rxnode.specs.Records.{receiving, texts_of}
 use Rattle.sig_rxnode.proofs.loading.take_records.Given as goal
 

@@ -1,7 +1,7 @@
 use Rattle.std.proofs.Common.{◌≡◌, ◌∙◌, ap, sym, ℕ, List, None, Some, Ok}
 use Rattle.sig_terms.specs.declared.answer.Answer.TheVariants as answer
 use Rattle.sig_accounts.specs.Owings.{owing_named}
-use Rattle.sig_making.proofs.MadeLemmas.{only_reply}
+use Rattle.sig_token_calls.proofs.MakingLemmas.{only_reply}
 use Rattle.sig_token_calls.proofs.HandingLemmas.{is_delivered, not_delivered, poll_not_delivered}
 use Rattle.sig_token_calls.proofs.PolledLemmas.{answered}
 use Rattle.sig_token_calls.proofs.handing.deliver.Goals as goal

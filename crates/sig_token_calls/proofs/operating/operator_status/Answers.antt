@@ -10,7 +10,7 @@ use Rattle.sig_terms.specs.Reply.{Reply}
 use Rattle.sig_calls.specs.Equality.{status_eq}
 use Rattle.sig_accounts.specs.Owings.{owing_named}
 use Rattle.sig_ledger.specs.Steps.{reply_in}
-use Rattle.sig_making.proofs.MadeLemmas.{only_reply}
+use Rattle.sig_token_calls.proofs.MakingLemmas.{only_reply}
 use Rattle.sig_token_calls.proofs.FoundLemmas.{found_numbered}
 use Rattle.sig_token_calls.proofs.MadeLemmas.{is_operated, not_operated, same_operated}
 use Rattle.sig_token_calls.proofs.PolledLemmas.{answered}

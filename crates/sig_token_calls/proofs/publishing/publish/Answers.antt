@@ -4,7 +4,7 @@ use Rattle.sig_history.specs.Streams.{Parts, Publication}
 use Rattle.sig_calls.specs.Publishing.{published_after}
 use Rattle.sig_calls.specs.Told.{outcome}
 use Rattle.sig_ledger.specs.Books.{sum_in}
-use Rattle.sig_making.proofs.MadeLemmas.{only_reply}
+use Rattle.sig_token_calls.proofs.MakingLemmas.{only_reply}
 use Rattle.sig_token_calls.specs.Replies.{later_answer}
 use Rattle.sig_token_calls.proofs.PolledLemmas.{answered}
 use Rattle.sig_token_calls.proofs.MadeLemmas.{later_reply}

@@ -6,7 +6,7 @@ use Rattle.sig_terms.specs.declared.fault.PrepareFault.{PrepareFault}
 use Rattle.sig_terms.specs.declared.fault.PrepareFault.TheVariants.{Memory}
 use Rattle.sig_terms.specs.Reply.{Reply}
 use Rattle.sig_ledger.specs.Steps.{reply_in}
-use Rattle.sig_making.proofs.MadeLemmas.{only_reply}
+use Rattle.sig_token_calls.proofs.MakingLemmas.{only_reply}
 use Rattle.sig_token_calls.proofs.FoundLemmas.{client_named, found_numbered}
 use Rattle.sig_token_calls.proofs.MadeLemmas.{is_verified, not_verified, refused_verified}
 use Rattle.sig_token_calls.proofs.verifying.verify.Goals as goal

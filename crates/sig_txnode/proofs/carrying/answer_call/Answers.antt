@@ -2,7 +2,7 @@ use Rattle.std.proofs.Common.{◌≡◌, sym, subst, ap, rules, ℕ, Option, Non
 use Rattle.sig_terms.specs.declared.answer.Answer.{Answer}
 use Rattle.sig_terms.specs.declared.fact.Fact.{Fact}
 use Rattle.sig_calls.specs.Table.{change_of, prepared_of}
-use Rattle.sig_store.specs.declared.fault.NodeFault.{NodeFault}
+use Rattle.sig_journal.specs.declared.node_fault.NodeFault.{NodeFault}
 use Rattle.sig_txnode.specs.Answering.{IsAnswered, answer_at, answer_with, where_room}
 use Rattle.sig_txnode.specs.Given.{KeepsChange, answer_in}
 use Rattle.sig_txnode.specs.Planned.{fact_in, reply_with}

@@ -3,10 +3,10 @@ use Rattle.std.specs.Prelude.{⊤}
 use Rattle.sig_journal.specs.declared.journal.AppendFault.{AppendFault}
 use Rattle.sig_journal.specs.declared.journal.AppendFault.TheVariants as append
 use Rattle.sig_history.specs.Owed.{Sum, sum_of}
-use Rattle.sig_store.specs.declared.fault.NodeFault.{NodeFault}
-use Rattle.sig_store.specs.declared.fault.NodeFault.TheVariants as node
-use Rattle.sig_store.specs.Standing.{StandsFor}
-use Rattle.sig_store.proofs.Stands.{durable_of, stands_after, stands_broken}
+use Rattle.sig_journal.specs.declared.node_fault.NodeFault.{NodeFault}
+use Rattle.sig_journal.specs.declared.node_fault.NodeFault.TheVariants as node
+use Rattle.sig_journal.specs.Standing.{StandsFor}
+use Rattle.sig_journal.proofs.Stands.{durable_of, stands_after, stands_broken}
 use Rattle.sig_txnode.specs.Answering.{end_with}
 use Rattle.sig_txnode.specs.Records.{sending}
 use Rattle.sig_txnode.proofs.CarryLemmas.{IsFullAt, full_err, full_ok, lasts_carried, stands_err, takes_fact}

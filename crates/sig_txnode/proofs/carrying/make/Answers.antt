@@ -2,7 +2,7 @@ use Rattle.std.proofs.Common.{◌≡◌, refl, sym, subst, ap, inr, Option, Some
 use Rattle.std.specs.Prelude.{⊤, option_map}
 use Rattle.sig_terms.specs.declared.answer.Answer.{Answer}
 use Rattle.sig_terms.specs.declared.fact.Fact.{Fact}
-use Rattle.sig_store.specs.declared.fault.NodeFault.{NodeFault}
+use Rattle.sig_journal.specs.declared.node_fault.NodeFault.{NodeFault}
 use Rattle.sig_txnode.specs.declared.plan.Change.{Change}
 use Rattle.sig_txnode.specs.Answering.{Answered, where_room}
 use Rattle.sig_txnode.specs.Planned.{fact_in}

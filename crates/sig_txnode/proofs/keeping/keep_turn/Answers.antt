@@ -2,7 +2,7 @@ use Rattle.std.proofs.Common.{◌≡◌, ◌∙◌, ◌+◌, ◌++◌, sym, subs
 use Rattle.std.specs.Option.{option_to_list}
 use Rattle.sig_terms.specs.declared.answer.Answer.{Answer}
 use Rattle.sig_terms.specs.declared.fact.Fact.{Fact}
-use Rattle.sig_store.specs.declared.fault.NodeFault.{NodeFault}
+use Rattle.sig_journal.specs.declared.node_fault.NodeFault.{NodeFault}
 use Rattle.sig_txnode.specs.declared.turn.Turn.{Turn}
 use Rattle.sig_txnode.specs.Taken.{Refused}
 use Rattle.sig_txnode.proofs.keeping.keep_turn.Goals as goal

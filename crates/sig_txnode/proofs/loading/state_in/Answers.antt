@@ -4,8 +4,8 @@ use Rattle.sig_history.specs.Owed.{empty_sum}
 use Rattle.sig_journal.specs.Layout.{places_of, records_size}
 use Rattle.sig_journal.specs.Store.{in_file_at}
 use Rattle.sig_entry.specs.Facts.{decoded}
-use Rattle.sig_store.specs.Taking.{state_after}
-use Rattle.sig_store.proofs.LoadSteps.{place_at}
+use Rattle.sig_journal.specs.Taking.{state_after}
+use Rattle.sig_journal.proofs.LoadSteps.{place_at}
 use Rattle.sig_outbox.specs.declared.applying.ApplyFault.{ApplyFault}
 use Rattle.sig_txnode.specs.Records.{after_record, sending}
 use Rattle.sig_txnode.proofs.LoadLemmas.{length_places, step_at, stop_at, taken_whole}

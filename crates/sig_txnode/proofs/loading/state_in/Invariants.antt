@@ -2,7 +2,7 @@ use Rattle.std.proofs.Common.{◌≡◌, ◌+◌, length, take, drop}
 use Rattle.sig_history.specs.Owed.{empty_sum}
 use Rattle.sig_history.specs.Whole.{IsWhole}
 use Rattle.sig_journal.specs.Layout.{records_size}
-use Rattle.sig_store.specs.Taking.{state_after}
+use Rattle.sig_journal.specs.Taking.{state_after}
 use Rattle.sig_txnode.specs.Records.{sending}
 use Rattle.sig_txnode.proofs.loading.state_in.Given as goal
 

@@ -2,10 +2,10 @@ use Rattle.std.proofs.Common.{◌≡◌, ◌∙◌, ◌+◌, refl, sym, subst, a
 use Rattle.sig_history.specs.Owed.{empty_sum}
 use Rattle.sig_journal.specs.Journal.{BothTold, IsAtRest, told_store}
 use Rattle.sig_journal.specs.Store.{in_file_at}
-use Rattle.sig_store.specs.Standing.{StandsFor}
-use Rattle.sig_store.specs.Stored.{Stored}
-use Rattle.sig_store.specs.Taking.{loaded, state_after}
-use Rattle.sig_store.proofs.LoadSteps.{stands_loaded}
+use Rattle.sig_journal.specs.Standing.{StandsFor}
+use Rattle.sig_journal.specs.Stored.{Stored}
+use Rattle.sig_journal.specs.Taking.{loaded, state_after}
+use Rattle.sig_journal.proofs.LoadSteps.{stands_loaded}
 use Rattle.sig_txnode.specs.Records.{sending}
 use Rattle.sig_txnode.proofs.NodeLemmas.{new_node}
 use Rattle.sig_txnode.proofs.node.opened.Goals as goal

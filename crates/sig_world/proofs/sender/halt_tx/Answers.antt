@@ -1,5 +1,5 @@
 use Rattle.std.proofs.Common.{◌≡◌, ◌∙◌, ap, subst, sym, Err}
-use Rattle.sig_store.specs.declared.fault.NodeFault.TheVariants.{Full}
+use Rattle.sig_journal.specs.declared.node_fault.NodeFault.TheVariants.{Full}
 use Rattle.sig_calls.specs.Proper.{is_proper_rules}
 use Rattle.sig_nodes.specs.Sending.{TxAt, tx_told}
 use Rattle.sig_schedules.specs.Replay.{replay_store}

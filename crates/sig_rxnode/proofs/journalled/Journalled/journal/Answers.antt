@@ -2,8 +2,8 @@ use Rattle.std.proofs.Common.{◌≡◌, ◌∙◌, ap, sym, subst, ℕ, List, [
 use Rattle.std.specs.Prelude.{⊤}
 use Rattle.sig_journal.specs.declared.journal.AppendFault.{AppendFault}
 use Rattle.sig_receiver.specs.Receiver.{received}
-use Rattle.sig_store.specs.Appended.{HasRecord}
-use Rattle.sig_store.specs.declared.fault.NodeFault.{NodeFault}
+use Rattle.sig_journal.specs.Appended.{HasRecord}
+use Rattle.sig_journal.specs.declared.node_fault.NodeFault.{NodeFault}
 use Rattle.sig_rxnode.specs.Holding.{Holding}
 use Rattle.sig_rxnode.specs.Journals.{Causes, Writes}
 use Rattle.sig_rxnode.specs.Parts.{holding_of}

@@ -1,5 +1,5 @@
 use Rattle.std.proofs.Common.{◌≡◌, ◌∙◌, ap, sym, subst, ◌+◌, List, length}
-use Rattle.sig_store.specs.Appended.{WritesOne}
+use Rattle.sig_journal.specs.Appended.{WritesOne}
 use Rattle.sig_rxnode.specs.declared.turn.RxTurn.{RxTurn}
 use Rattle.sig_rxnode.specs.Journals.{Writes}
 use Rattle.sig_rxnode.specs.Node.{IsNode, NodeView, base_of}

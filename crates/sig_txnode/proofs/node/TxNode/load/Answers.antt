@@ -4,7 +4,7 @@ use Rattle.sig_journal.specs.declared.fault.LoadFault.TheVariants.{Store}
 use Rattle.sig_journal.specs.declared.kind.Kind.TheVariants.{Tx}
 use Rattle.sig_journal.specs.OnlyRead.{OnlyRead}
 use Rattle.sig_journal.specs.Store.{Told}
-use Rattle.sig_store.specs.Taking.{loaded}
+use Rattle.sig_journal.specs.Taking.{loaded}
 use Rattle.sig_txnode.specs.Loaded.{GivesState, state_by, told_of}
 use Rattle.sig_txnode.specs.Records.{sending}
 use Rattle.sig_txnode.proofs.OpenLemmas.{err_of, gives_state, of_files, ok_of, store_opened, told_loaded}

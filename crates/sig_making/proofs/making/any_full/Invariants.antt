@@ -1,8 +1,0 @@
-use Rattle.std.proofs.Common.{◌≡◌, drop, map}
-use Rattle.std.specs.List.{list_any}
-use Rattle.sig_making.specs.Tokens.{is_full, stream_of}
-use Rattle.sig_making.proofs.making.any_full.Given as goal
-
-abbrev pub invariant-loop-account : goal.invariant-loop-account
-invariant-loop-account l =
-    list_any (is_full l.fact) (map stream_of l.accounts) ≡ list_any (is_full l.fact) (map stream_of (drop l.account-index l.accounts))

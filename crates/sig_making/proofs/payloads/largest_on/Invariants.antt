@@ -1,8 +1,0 @@
-use Rattle.std.proofs.Common.{◌≡◌, drop, map, max}
-use Rattle.sig_making.specs.Sizes.{most_on}
-use Rattle.sig_making.specs.Tokens.{stream_of}
-use Rattle.sig_making.proofs.payloads.largest_on.Given as goal
-
-abbrev pub invariant-loop-account : goal.invariant-loop-account
-invariant-loop-account l =
-    max l.most (most_on l.shared l.fact (map stream_of (drop l.account-index l.accounts))) ≡ most_on l.shared l.fact (map stream_of l.accounts)

@@ -1,6 +1,0 @@
-use Rattle.std.proofs.Common.{◌≡◌, take}
-use Rattle.sig_making.specs.Sizes.{escaped_bytes}
-use Rattle.sig_making.proofs.sizes.escaped_size.Given as goal
-
-abbrev pub invariant-loop-byte : goal.invariant-loop-byte
-invariant-loop-byte l = l.size ≡ escaped_bytes (take l.byte-index l.text)

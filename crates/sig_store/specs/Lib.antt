@@ -1,5 +1,0 @@
-pub mod Faults
-pub mod Taking
-pub mod Stored
-pub mod Appended
-pub mod Standing

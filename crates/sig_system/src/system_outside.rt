@@ -1,0 +1,182 @@
+ghost use Rattle.std.specs.Prelude.{◌≡◌, None, Some, IfOk, IfErr, IfSome, OnErr, OnOk};
+ghost use Rattle.sig_outside.specs.Causes.{HasCause};
+ghost use Rattle.sig_system.specs.Adapters.{IsOfDoor, IsOfStore, pair_of};
+
+use crate::{FileDisk, OpenFault, OutsideFault, ReaderSource, TcpDoor, TcpSide};
+use sig_links::{FaultCount, Outside};
+use sig_outside::{Failed, Place};
+use std::alloc::Global;
+use std::fs::{File, Files};
+use std::marker::Model;
+use std::net::{Net, TcpListener, TcpStream};
+use std::rt::Clock;
+
+/// The system as the outside: settings and stores are files by their paths, doors and sides are those over TCP. It tells
+/// nothing of their content, and counts their faults. `R` is a handle on the system, as a reference to the runtime.
+#[derive(Drop)]
+pub struct SystemOutside<R> {
+    rt: R,
+    alloc: Global,
+    settings: FaultCount,
+    stores: FaultCount,
+    network: FaultCount,
+    last: Option<OutsideFault>,
+}
+
+impl<R> Model for SystemOutside<R> {
+    ghost use Rattle.sig_system.specs.Adapters.{OutsideCounts};
+
+    ghost Value = { OutsideCounts };
+
+    ghost view = { λ o. record { settings = o.settings; stores = o.stores; network = o.network; last = o.last } };
+}
+
+impl<R> SystemOutside<R> {
+    /// An outside that has met no fault.
+    pub fn new(alloc: Global, rt: R) -> SystemOutside<R>
+        ensures { result ≡ record { settings = 0; stores = 0; network = 0; last = None } }
+    {
+        SystemOutside {
+            rt,
+            alloc,
+            settings: FaultCount::new(),
+            stores: FaultCount::new(),
+            network: FaultCount::new(),
+            last: None,
+        }
+    }
+
+    /// Why the last of the calls `settings`, `store` and `door` failed that did, for the message to the operator.
+    pub fn last_fault(&self) -> Option<OutsideFault>
+        ensures { result ≡ self.now.last }
+    {
+        self.last
+    }
+}
+
+impl<
+    R: Net<Listener = TcpListener, Stream = TcpStream> + Files<File = File> + Clock + Copy + Send,
+> Outside for SystemOutside<R> {
+    type I = ReaderSource<File>;
+
+    type D = FileDisk;
+
+    type A = TcpDoor<R>;
+
+    ghost use Rattle.std.specs.Prelude.{None, true};
+
+    ghost settings_of = { λ o name. None };
+
+    ghost held = { λ o name. None };
+
+    ghost lent = { λ o name. true };
+
+    ghost doors = { λ o. None };
+
+    ghost doors_out = { λ o. 0 };
+
+    ghost doors_back = { λ o. None };
+
+    ghost sides = { λ o. None };
+
+    ghost sides_out = { λ o. 0 };
+
+    ghost sides_back = { λ o. None };
+
+    ghost settings_faults = { λ o. o.settings };
+
+    ghost store_faults = { λ o. o.stores };
+
+    ghost network_faults = { λ o. o.network };
+
+    fn settings(&mut self, name: &str) -> Result<ReaderSource<File>, Failed>
+        ensures whole { IfOk result (λ source. source.faults ≡ 0) }
+        ensures done { OnOk result (self.new ≡ self.old) }
+        ensures why { OnErr result (self.new ≡ record self.old { settings = self.new.settings; last = Some OutsideFault.Settings }) }
+        ensures cause { HasCause self.old.settings self.new.settings result }
+    {
+        match open_settings(&self.rt, name) {
+            Ok(given) => Ok(given),
+            Err(fault) => {
+                self.last = Some(fault);
+                Err(self.settings.raise())
+            }
+        }
+    }
+
+    fn back_settings(&mut self, source: ReaderSource<File>) {
+        self.settings.gather(source.faults());
+    }
+
+    fn store(&mut self, name: &str) -> Result<FileDisk, Failed>
+        ensures whole { IfOk result (λ disk. disk ≡ 0) }
+        ensures done { OnOk result (self.new ≡ self.old) }
+        ensures why { OnErr result (IfSome self.new.last IsOfStore × (self.new ≡ record self.old { stores = self.new.stores; last = self.new.last })) }
+        ensures cause { HasCause self.old.stores self.new.stores result }
+    {
+        match open_store(&self.rt, name) {
+            Ok(given) => Ok(given),
+            Err(fault) => {
+                self.last = Some(fault);
+                Err(self.stores.raise())
+            }
+        }
+    }
+
+    fn put_back(&mut self, _name: &str, disk: FileDisk) {
+        self.stores.gather(disk.faults());
+    }
+
+    fn door(&mut self, place: &Place) -> Result<TcpDoor<R>, Failed>
+        ensures door { IfOk result (λ door. door ≡ record { place = Some (pair_of place.now); faults = 0 }) }
+        ensures done { OnOk result (self.new ≡ self.old) }
+        ensures why { OnErr result (IfSome self.new.last IsOfDoor × (self.new ≡ record self.old { network = self.new.network; last = self.new.last })) }
+        ensures cause { HasCause self.old.network self.new.network result }
+    {
+        match TcpDoor::open(self.alloc, self.rt, place) {
+            Ok(given) => Ok(given),
+            Err(fault) => {
+                self.last = Some(fault);
+                Err(self.network.raise())
+            }
+        }
+    }
+
+    fn side(&mut self) -> TcpSide<R> {
+        TcpSide::new(self.alloc, self.rt)
+    }
+
+    fn back_door(&mut self, door: TcpDoor<R>) {
+        self.network.gather(door.faults());
+    }
+
+    fn back_side(&mut self, side: TcpSide<R>) {
+        self.network.gather(side.faults());
+    }
+}
+
+// The settings in the file at this path.
+fn open_settings<R: Files<File = File>>(
+    rt: &R,
+    path: &str,
+) -> Result<ReaderSource<File>, OutsideFault>
+    ensures whole { IfOk result (λ source. source.faults ≡ 0) }
+    ensures why { IfErr result (λ fault. fault ≡ OutsideFault.Settings) }
+{
+    match File::open(rt, path) {
+        Ok(file) => Ok(ReaderSource::new(file)),
+        Err(_) => Err(OutsideFault::Settings),
+    }
+}
+
+// The store in the file at this path, which is made where it isn't there.
+fn open_store<R: Files<File = File>>(rt: &R, path: &str) -> Result<FileDisk, OutsideFault>
+    ensures whole { IfOk result (λ disk. disk ≡ 0) }
+    ensures why { IfErr result IsOfStore }
+{
+    match FileDisk::open(rt, path) {
+        Ok(disk) => Ok(disk),
+        Err(OpenFault::Failed) => Err(OutsideFault::Store),
+        Err(OpenFault::InUse) => Err(OutsideFault::StoreInUse),
+    }
+}

@@ -1,0 +1,131 @@
+ghost use Rattle.std.specs.Prelude.{◌≡◌, None, Some, IfErr, IfOk, IfSome};
+ghost use Rattle.sig_outside.specs.Causes.{HasCause};
+ghost use Rattle.sig_links.specs.Told.{IfLink, IfShut};
+ghost use Rattle.sig_system.specs.Adapters.{IsOfDoor, pair_of, untold, unused};
+
+use crate::{OutsideFault, TcpLink, TcpSide};
+use sig_links::{Accepted, Door, FaultCount};
+use sig_outside::{Failed, Place};
+use std::alloc::Global;
+use std::io::ErrorKind;
+use std::marker::Model;
+use std::net::{Net, TcpListener, TcpStream};
+use std::rt::Clock;
+
+/// What listens over TCP. It tells nothing of the links that come, and never answers that none will; it counts the accepts
+/// that failed. `R` is a handle on the network and the clock, as a reference to the runtime.
+#[derive(Drop)]
+pub struct TcpDoor<R> {
+    listener: TcpListener,
+    place: Place,
+    rt: R,
+    alloc: Global,
+    faults: FaultCount,
+}
+
+impl<R> Model for TcpDoor<R> {
+    ghost use Rattle.std.specs.Prelude.{Some};
+    ghost use Rattle.sig_system.specs.Adapters.{DoorCounts, pair_of};
+
+    ghost Value = { DoorCounts };
+
+    ghost view = { λ d. record { place = Some (pair_of d.place); faults = d.faults } };
+}
+
+impl<R: Net<Listener = TcpListener, Stream = TcpStream> + Copy> TcpDoor<R> {
+    /// A door at this place: it listens at the first address of the host where the system lets it. The fault is `PlaceInUse`
+    /// where another process listens there, `Memory` or `Door`.
+    pub fn open(alloc: Global, rt: R, place: &Place) -> Result<TcpDoor<R>, OutsideFault>
+        ensures door { IfOk result (λ door. door ≡ record { place = Some (pair_of place.now); faults = 0 }) }
+        ensures why { IfErr result IsOfDoor }
+    {
+        let Ok(kept) = place.copy(alloc) else {
+            return Err(OutsideFault::Memory);
+        };
+        match TcpListener::bind(&rt, (place.host.as_str(), place.port)) {
+            Ok(listener) => Ok(TcpDoor {
+                listener,
+                place: kept,
+                rt,
+                alloc,
+                faults: FaultCount::new(),
+            }),
+            Err(error) if error.kind() == ErrorKind::AddrInUse => Err(OutsideFault::PlaceInUse),
+            Err(_) => Err(OutsideFault::Door),
+        }
+    }
+}
+
+impl<R> TcpDoor<R> {
+    /// How many accepts failed.
+    pub fn faults(&self) -> u64
+        ensures { result ≡ self.now.faults }
+    {
+        self.faults.count()
+    }
+}
+
+impl<R: Net<Listener = TcpListener, Stream = TcpStream> + Clock + Copy + Send> Door for TcpDoor<R> {
+    type L = TcpLink;
+
+    type S = TcpSide<R>;
+
+    ghost place = { λ d. d.place };
+
+    ghost coming = { λ d. None };
+
+    ghost served = { λ d. None };
+
+    ghost out = { λ d. 0 };
+
+    ghost plan = { λ l. untold };
+
+    ghost faults = { λ d. d.faults };
+
+    // It never answers that no link will come.
+    fn accept(&mut self) -> Result<Accepted<TcpLink, TcpSide<R>>, Failed>
+        ensures whole { IfOk result (λ answer. IfLink answer (λ link side. (link ≡ unused None) × (side ≡ 0))) }
+        ensures open { IfOk result (λ answer. IfShut answer ⊥) }
+        ensures place { self.new.place ≡ self.old.place }
+        ensures cause { HasCause self.old.faults self.new.faults result }
+    {
+        match accept_link(&self.listener) {
+            Some(link) => Ok(Accepted::Link {
+                link,
+                side: TcpSide::new(self.alloc, self.rt),
+            }),
+            None => Err(self.faults.raise()),
+        }
+    }
+
+    fn back(&mut self, _link: TcpLink, _side: TcpSide<R>) {}
+}
+
+// The next link. One whose peer went away before it was accepted is passed over.
+fn accept_link(listener: &TcpListener) -> Option<TcpLink>
+    ensures { IfSome result (λ link. link ≡ unused None) }
+{
+    for _ in 0..u64::MAX {
+        match listener.accept() {
+            Ok((stream, _)) => {
+                if let Ok(link) = TcpLink::over(stream, None) {
+                    return Some(link);
+                }
+            }
+            Err(error) if is_of_peer(error.kind()) => {}
+            Err(_) => return None,
+        }
+    }
+    None
+}
+
+// Whether such an error is the peer's or of this call alone, and says nothing of the listener.
+fn is_of_peer(kind: ErrorKind) -> bool {
+    matches!(
+        kind,
+        ErrorKind::Interrupted
+            | ErrorKind::ConnectionAborted
+            | ErrorKind::HostUnreachable
+            | ErrorKind::NetworkUnreachable
+    )
+}

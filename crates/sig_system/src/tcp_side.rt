@@ -1,0 +1,117 @@
+ghost use Rattle.std.specs.Prelude.{◌≡◌, None, Some, IfOk, IfSome};
+ghost use Rattle.sig_outside.specs.Causes.{HasCause};
+ghost use Rattle.sig_system.specs.Adapters.{pair_of, untold, unused};
+
+use crate::TcpLink;
+use sig_links::{FaultCount, Side};
+use sig_outside::{Failed, Place};
+use std::alloc::Global;
+use std::marker::Model;
+use std::net::{Net, TcpStream, ToSocketAddrs};
+use std::rt::Clock;
+use std::time::{Duration, SystemTime, UNIX_EPOCH};
+
+/// How many seconds a dial waits for an answer from each address of a host.
+pub const DIAL_SECONDS: u64 = 30;
+
+/// How many addresses of a host a dial tries at most.
+pub const DIAL_ADDRESSES: usize = 4;
+
+/// What dials over TCP, and tells the system's time. It tells nothing of what its links will give, and counts its faults.
+/// `R` is a handle on the network and the clock, as a reference to the runtime.
+#[derive(Drop)]
+pub struct TcpSide<R> {
+    rt: R,
+    alloc: Global,
+    time: u64,
+    faults: FaultCount,
+}
+
+impl<R> Model for TcpSide<R> {
+    ghost use Rattle.std.specs.Prelude.{ℕ};
+
+    ghost Value = { ℕ };
+
+    ghost view = { λ s. s.faults };
+}
+
+impl<R> TcpSide<R> {
+    /// A side that has met no fault.
+    pub fn new(alloc: Global, rt: R) -> TcpSide<R>
+        ensures { result ≡ 0 }
+    {
+        TcpSide {
+            rt,
+            alloc,
+            time: 0,
+            faults: FaultCount::new(),
+        }
+    }
+
+    /// How many dials failed, with the faults of the links that were given back.
+    pub fn faults(&self) -> u64
+        ensures { result ≡ self.now }
+    {
+        self.faults.count()
+    }
+}
+
+impl<R: Net<Stream = TcpStream> + Clock> Side for TcpSide<R> {
+    type L = TcpLink;
+
+    ghost ahead = { λ s. None };
+
+    ghost times = { λ s. None };
+
+    ghost sent = { λ s. None };
+
+    ghost out = { λ s. 0 };
+
+    ghost plan = { λ l. untold };
+
+    ghost faults = { λ s. s };
+
+    fn dial(&mut self, place: &Place) -> Result<TcpLink, Failed>
+        ensures link { IfOk result (λ link. link ≡ unused (Some (pair_of place.now))) }
+        ensures cause { HasCause self.old self.new result }
+    {
+        match connect(self.alloc, &self.rt, place) {
+            Some(link) => Ok(link),
+            None => Err(self.faults.raise()),
+        }
+    }
+
+    // Where the clock can't be read, it is the last time again, 0 at first.
+    fn now(&mut self) -> u64 {
+        if let Some(time) = seconds(&self.rt) {
+            self.time = time;
+        }
+        self.time
+    }
+
+    fn back(&mut self, link: TcpLink) {
+        self.faults.gather(link.read_faults());
+        self.faults.gather(link.write_faults());
+    }
+}
+
+// A link to the first address of this place that answers.
+fn connect<R: Net<Stream = TcpStream>>(alloc: Global, rt: &R, place: &Place) -> Option<TcpLink>
+    ensures { IfSome result (λ link. link ≡ unused (Some (pair_of place.now))) }
+{
+    let kept = place.copy(alloc).ok()?;
+    let addresses = (place.host.as_str(), place.port).to_socket_addrs(rt).ok()?;
+    let limit = Duration::from_secs(DIAL_SECONDS);
+    for address in addresses.take(DIAL_ADDRESSES) {
+        if let Ok(stream) = TcpStream::connect_timeout(rt, &address, limit) {
+            return TcpLink::over(stream, Some(kept)).ok();
+        }
+    }
+    None
+}
+
+// The time in seconds since the start of 1970, where the clock can be read.
+fn seconds<R: Clock>(rt: &R) -> Option<u64> {
+    let now = SystemTime::now(rt).ok()?;
+    Some(now.duration_since(UNIX_EPOCH).ok()?.as_secs())
+}

@@ -1,3 +1,0 @@
-pub mod AcceptLemmas
-pub mod ReturnLemmas
-pub mod WatchLemmas

@@ -1,5 +1,0 @@
-pub mod Sights
-pub mod Accepting
-pub mod Finished
-pub mod Returning
-pub mod Attending

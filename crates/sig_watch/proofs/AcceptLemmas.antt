@@ -1,0 +1,30 @@
+-- A link that a door gave.
+use Rattle.std.proofs.Common.{◌≡◌, subst, sym}
+use Rattle.sig_links.specs.declared.accepted.Accepted.{Accepted}
+use Rattle.sig_links.specs.declared.accepted.Accepted.TheVariants.{Link}
+use Rattle.sig_links.specs.Told.{AcceptsNext, Begins, IfLink, Lends, LinkPlan}
+use Rattle.sig_serving.specs.Door.{DoorView}
+use Rattle.sig_serving.specs.Line.{Line}
+use Rattle.sig_serving.specs.Side.{SideView}
+use Rattle.sig_watch.specs.Accepting.{Gives}
+use Rattle.sig_watch.specs.Sights.{Sight, sight}
+
+-- what holds of a link that was given
+pub of_link : {L S : Type 0} (answer : Accepted L S) (link : L) (side : S) (holds : L → S → Type 0) → answer ≡ Link link side → IfLink answer holds → holds link side
+of_link {L} {S} answer link side holds is h = subst (λ (a : Accepted L S). IfLink a holds) is h
+
+pub gives : (old new : DoorView) (came : Sight) (line : Line) (side : SideView) (plan : LinkPlan) → came ≡ sight line side
+    → AcceptsNext old.coming new.coming plan line.left side.ahead side.times → Begins old.served line.written × Begins old.served side.sent
+    → (line.reads ≡ 0) × (line.writes ≡ 0) × (side.faults ≡ 0) → Lends old.served old.out new.out → (new.served ≡ old.served) × (new.place ≡ old.place)
+    → new.faults ≡ old.faults → Gives old new came
+gives old new came line side plan is next begins whole lends others faults = subst (λ (s : Sight). Gives old new s) (sym is) (record {
+  plan = plan;
+  next = next;
+  written = begins.0;
+  sent = begins.1;
+  whole = whole;
+  lends = lends;
+  served = others.0;
+  place = others.1;
+  faults = faults;
+})

@@ -1,0 +1,17 @@
+-- The way back of the links of a watch, one by one.
+use Rattle.std.specs.Prelude.{◌≡◌, List, [], ◌∷◌}
+use Rattle.sig_links.specs.Told.{TakesBack, served_of}
+use Rattle.sig_serving.specs.Door.{DoorView}
+use Rattle.sig_watch.specs.Sights.{Sight}
+
+-- the door took this link back
+pub record IsBack (left : Sight) (old new : DoorView) : Type 0 where
+  pub takes : TakesBack old.served new.served old.out new.out (served_of left.line.written left.side.sent)
+  pub coming : new.coming ≡ old.coming
+  pub place : new.place ≡ old.place
+  pub faults : new.faults ≡ old.faults
+
+-- and these, in order
+abbrev pub AreBack : List Sight → DoorView → DoorView → Type 0
+AreBack [] old new = new ≡ old
+AreBack (left ∷ rest) old new = (between : DoorView) × IsBack left old between × AreBack rest between new

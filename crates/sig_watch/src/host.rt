@@ -1,0 +1,29 @@
+ghost use Rattle.std.specs.Prelude.{ℕ};
+ghost use Rattle.sig_serving.specs.Line.{seen};
+ghost use Rattle.sig_serving.specs.Side.{view_of};
+ghost use Rattle.sig_watch.specs.Sights.{Sight, sight};
+
+use sig_links::{Link, Side};
+use std::sync::Wait;
+
+/// What serves the links of a watch, several at the same time.
+///
+/// Its meaning `serves` says how a link comes to a log: the link's number, its log, and what is seen of the link and of its
+/// side before and after.
+pub trait Host {
+    type Log: Send + Drop;
+
+    ghost serves: { Self → ℕ → Self.Log → Sight → Sight → Type 0 };
+
+    /// Serves a link under this number. It may wait for the link, for those that it dials, and for others that are served.
+    fn serve<R: Wait, L: Link, S: Side>(
+        &self,
+        rt: &R,
+        number: u32,
+        link: &mut L,
+        side: &mut S,
+    ) -> Self::Log
+        ensures { serves self.now number result
+            (sight (seen L.left L.written L.Source.faults L.Sink.faults link.old) (view_of S.ahead S.times S.sent S.faults side.old))
+            (sight (seen L.left L.written L.Source.faults L.Sink.faults link.new) (view_of S.ahead S.times S.sent S.faults side.new)) };
+}
