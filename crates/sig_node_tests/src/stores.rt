@@ -1,7 +1,6 @@
-//! Stores in memory.
+//! Stores in memory whose first file, the one in force, fails at one of its calls.
 
-use crate::calls::calls;
-use sig_json::{Bytes, Memory};
+use sig_json::{Bytes, Items, Memory};
 use sig_outside::MemDisk;
 use std::alloc::Global;
 
@@ -21,18 +20,22 @@ pub struct Files {
 }
 
 fn disk(alloc: Global, bytes: &[u8], failing: Option<u64>) -> Result<MemDisk, Memory> {
-    Ok(MemDisk::new(alloc, Bytes::of(alloc, bytes)?, calls(alloc, failing)?))
+    let mut calls = Vec::new(alloc);
+    if let Some(call) = failing {
+        calls.push(call)?;
+    }
+    Ok(MemDisk::new(alloc, Bytes::of(alloc, bytes)?, Items::of(calls)))
 }
 
-/// A store of this kind without a record, `T` or `R`, whose first file, the one in force, may fail at a call, counted from 0.
+/// A store of this kind without a record, `T` or `R`, whose first file fails at this call, counted from 0.
 ///
 /// Loading a node makes four calls of it, and each record that is added four more: its bytes are written and synced, and
 /// then the gate before them.
-pub fn store(alloc: Global, kind: u8, failing: Option<u64>) -> Result<Files, Memory> {
+pub fn store(alloc: Global, kind: u8, failing: u64) -> Result<Files, Memory> {
     let mut bytes = EMPTY;
     bytes[6] = kind;
     let b = disk(alloc, b"\0", None)?;
-    let a = disk(alloc, &bytes, failing)?;
+    let a = disk(alloc, &bytes, Some(failing))?;
     Ok(Files { a, b })
 }
 

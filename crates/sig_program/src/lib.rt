@@ -19,6 +19,8 @@ mod ending;
 mod entering;
 mod finishing;
 mod running;
+#[cfg(test)]
+mod tests;
 
 pub use command::Command;
 pub use ending::Ending;

@@ -13,7 +13,7 @@ use std::thread::yield_now;
 const TURNS: u64 = 10_000_000;
 
 /// What a link will give, and whether it waits between both parts.
-#[derive(Clone, Copy)]
+#[derive(Drop)]
 pub struct Plan {
     /// The first part of a request.
     pub head: &'static [u8],

@@ -1,4 +1,4 @@
-//! A door that gives two held links.
+//! A door that gives a few held links.
 
 use crate::held_link::{HeldLink, Plan};
 use crate::still_side::StillSide;
@@ -8,13 +8,12 @@ use sig_outside::Failed;
 use std::alloc::Global;
 use std::sync::atomic::AtomicU64;
 
-/// A door that gives links by two plans, and keeps what was written to them.
+/// A door that gives links by these plans, the last one first, and keeps what was written to them.
 #[derive(Drop)]
 pub struct HeldDoor<'a> {
     alloc: Global,
     answered: &'a AtomicU64,
-    plans: [Plan; 2],
-    given: usize,
+    plans: Vec<Plan>,
     /// What was written to each, in the order in which they came back.
     pub written: Vec<Bytes>,
     faults: FaultCount,
@@ -22,12 +21,11 @@ pub struct HeldDoor<'a> {
 
 impl<'a> HeldDoor<'a> {
     /// A door of these plans.
-    pub fn new(alloc: Global, answered: &'a AtomicU64, plans: [Plan; 2]) -> HeldDoor<'a> {
+    pub fn new(alloc: Global, answered: &'a AtomicU64, plans: Vec<Plan>) -> HeldDoor<'a> {
         HeldDoor {
             alloc,
             answered,
             plans,
-            given: 0,
             written: Vec::new(alloc),
             faults: FaultCount::new(),
         }
@@ -54,14 +52,13 @@ impl<'a> Door for HeldDoor<'a> {
     ghost faults = { λ d. d.faults };
 
     fn accept(&mut self) -> Result<Accepted<HeldLink<'a>, StillSide<'a>>, Failed> {
-        let Some(plan) = self.plans.get(self.given) else {
-            return Ok(Accepted::Shut);
-        };
-        self.given = self.given.saturating_add(1);
-        Ok(Accepted::Link {
-            link: HeldLink::new(self.alloc, self.answered, *plan),
-            side: StillSide::new(),
-        })
+        match self.plans.pop() {
+            Some(plan) => Ok(Accepted::Link {
+                link: HeldLink::new(self.alloc, self.answered, plan),
+                side: StillSide::new(),
+            }),
+            None => Ok(Accepted::Shut),
+        }
     }
 
     fn back(&mut self, link: HeldLink<'a>, _side: StillSide<'a>) {
