@@ -28,10 +28,10 @@ pub fn ask<S: Side>(
     kind: &str,
     language: bool,
 ) -> Result<Response, AskFault>
-    ensures sends { Sends to.now (request_spelling host.now request.now kind.now language) (S.sent side.old) (S.sent side.new) result }
-    ensures hears { Hears (S.ahead side.old) (S.ahead side.new) result }
-    ensures times { S.times side.new ≡ S.times side.old }
-    ensures counts { Counts (S.faults side.old) (S.faults side.new) result }
+    ensures sends { Sends to.now (request_spelling host.now request.now kind.now language) (S.view side.old).sent (S.view side.new).sent result }
+    ensures hears { Hears (S.view side.old).ahead (S.view side.new).ahead result }
+    ensures times { (S.view side.new).times ≡ (S.view side.old).times }
+    ensures counts { Counts (S.view side.old).faults (S.view side.new).faults result }
 {
     match side.dial(to) {
         Ok(mut link) => {

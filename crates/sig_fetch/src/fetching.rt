@@ -39,13 +39,13 @@ pub fn fetch<D: Disk, S: Side>(
     ensures no_gateway { (result ≡ Err FetchFault.NoGateway) ↔ (lacks_gateway peer.now ≡ true) }
 
     // The rounds: what each asked, how it was answered and what was taken, over which links.
-    ensures fetches { Fetches peer.now rounds (S.ahead side.old) (S.ahead side.new) (S.sent side.old) (S.sent side.new) node.old node.new (result_map (λ (f : Fetched). f.rounds) result) }
+    ensures fetches { Fetches peer.now rounds (S.view side.old).ahead (S.view side.new).ahead (S.view side.old).sent (S.view side.new).sent node.old node.new (result_map (λ (f : Fetched). f.rounds) result) }
     ensures tallies { IfOk result (Tallies node.old node.new) }
 
     // Why it ended with a fault.
     ensures halts { Halts D.told D.faults node.old node.new result }
-    ensures counts { Counts (S.faults side.old) (S.faults side.new) result }
-    ensures times { S.times side.new ≡ S.times side.old }
+    ensures counts { Counts (S.view side.old).faults (S.view side.new).faults result }
+    ensures times { (S.view side.new).times ≡ (S.view side.old).times }
 
     // What the node is afterwards.
     ensures holds { IsHolding D.told D.seen D.may_leave node.new.kept }
@@ -71,11 +71,11 @@ fn all_rounds<D: Disk, S: Side>(
     rounds: u64,
 ) -> Result<u64, FetchFault>
     requires place { place_of peer.now ≡ Some place.now }
-    ensures fetches { Fetches peer.now rounds (S.ahead side.old) (S.ahead side.new) (S.sent side.old) (S.sent side.new) node.old node.new result }
+    ensures fetches { Fetches peer.now rounds (S.view side.old).ahead (S.view side.new).ahead (S.view side.old).sent (S.view side.new).sent node.old node.new result }
     ensures reached { result ≡ Err FetchFault.NoGateway → ⊥ }
     ensures halts { Halts D.told D.faults node.old node.new result }
-    ensures counts { Counts (S.faults side.old) (S.faults side.new) result }
-    ensures times { S.times side.new ≡ S.times side.old }
+    ensures counts { Counts (S.view side.old).faults (S.view side.new).faults result }
+    ensures times { (S.view side.new).times ≡ (S.view side.old).times }
 {
     let mut from = node.turns().len();
     for made in 0..rounds {

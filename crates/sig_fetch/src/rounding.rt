@@ -32,10 +32,10 @@ pub fn round<D: Disk, S: Side>(
     what: &PollAsk,
 ) -> Result<bool, FetchFault>
     requires place { asks.place_of peer.now ≡ Some place.now }
-    ensures goes { Goes peer.now what.now (S.ahead side.old) (S.ahead side.new) (S.sent side.old) (S.sent side.new) node.old node.new result }
+    ensures goes { Goes peer.now what.now (S.view side.old).ahead (S.view side.new).ahead (S.view side.old).sent (S.view side.new).sent node.old node.new result }
     ensures halts { Halts D.told D.faults node.old node.new result }
-    ensures times { S.times side.new ≡ S.times side.old }
-    ensures counts { Counts (S.faults side.old) (S.faults side.new) result }
+    ensures times { (S.view side.new).times ≡ (S.view side.old).times }
+    ensures counts { Counts (S.view side.old).faults (S.view side.new).faults result }
 {
     let request = poll_request(alloc, peer, what)?;
     let host = &peer.endpoint.place;

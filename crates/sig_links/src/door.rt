@@ -1,5 +1,6 @@
-ghost use Rattle.std.specs.Prelude.{◌≡◌, ℕ, List, Option, None, IfOk, OnErr};
+ghost use Rattle.std.specs.Prelude.{◌≡◌, None, IfOk, OnErr};
 ghost use Rattle.sig_outside.specs.Causes.{HasCause};
+ghost use Rattle.sig_links.specs.Views.{DoorView};
 ghost use Rattle.sig_links.specs.Told.{AcceptsNext, Begins, Coming, IfLink, IfShut, IsShut, Lends, LinkPlan, Served, TakesBack, served_of};
 
 use crate::{Accepted, Link, Side};
@@ -7,43 +8,35 @@ use sig_outside::Failed;
 
 /// Where links come in, each with a side beside it.
 ///
-/// Its meanings: `place` is the host and port where it listens; `coming` are the links that its accepts will give, in order,
-/// and `served` are those that were given back to it, in order, each where it is told. `out` counts the links that are out,
-/// where `served` is told. `plan` is what a link will give. `faults` counts the accepts that failed (it stands at 2^64 - 1).
+/// Its meaning `view` has the links that its accepts will give and those that were given back to it, in order, each where
+/// it is told; how many links are out, where those that come back are told; the host and port where it listens; and the
+/// count of the accepts that failed (it stands at 2^64 - 1). `plan` is what a link will give.
 pub trait Door {
     type L: Link + Send + Drop;
 
     type S: Side<L: Send> + Send + Drop;
 
-    ghost place: { Self → Option (List ℕ × ℕ) };
-
-    ghost coming: { Self → Option (List Coming) };
-
-    ghost served: { Self → Option (List Served) };
-
-    ghost out: { Self → ℕ };
+    ghost view: { Self → DoorView };
 
     ghost plan: { Self.L → LinkPlan };
-
-    ghost faults: { Self → ℕ };
 
     /// The next link, with its side. Nothing is written to the link and nothing is sent by the side yet, and neither has met
     /// a fault. `Shut` comes where no further link will come. `Failed` raises the count by one, and takes none of the links
     /// that are coming.
     fn accept(&mut self) -> Result<Accepted<Self::L, Self::S>, Failed>
-        ensures next { IfOk result (λ answer. IfLink answer (λ link side. AcceptsNext (coming self.old) (coming self.new) (plan link) (Self.L.left link) (Self.S.ahead side) (Self.S.times side))) }
-        ensures shut { IfOk result (λ answer. IfShut answer (IsShut (coming self.old) × (coming self.new ≡ coming self.old) × (out self.new ≡ out self.old))) }
-        ensures none { OnErr result ((coming self.new ≡ coming self.old) × (out self.new ≡ out self.old)) }
-        ensures begins { IfOk result (λ answer. IfLink answer (λ link side. Begins (served self.old) (Self.L.written link) × Begins (served self.old) (Self.S.sent side))) }
-        ensures whole { IfOk result (λ answer. IfLink answer (λ link side. (Self.L.Source.faults link ≡ 0) × (Self.L.Sink.faults link ≡ 0) × (Self.S.faults side ≡ 0))) }
+        ensures next { IfOk result (λ answer. IfLink answer (λ link side. AcceptsNext (view self.old).coming (view self.new).coming (plan link) (Self.L.left link) (Self.S.view side).ahead (Self.S.view side).times)) }
+        ensures shut { IfOk result (λ answer. IfShut answer (IsShut (view self.old).coming × ((view self.new).coming ≡ (view self.old).coming) × ((view self.new).out ≡ (view self.old).out))) }
+        ensures none { OnErr result (((view self.new).coming ≡ (view self.old).coming) × ((view self.new).out ≡ (view self.old).out)) }
+        ensures begins { IfOk result (λ answer. IfLink answer (λ link side. Begins (view self.old).served (Self.L.written link) × Begins (view self.old).served (Self.S.view side).sent)) }
+        ensures whole { IfOk result (λ answer. IfLink answer (λ link side. (Self.L.Source.faults link ≡ 0) × (Self.L.Sink.faults link ≡ 0) × ((Self.S.view side).faults ≡ 0))) }
         ensures accepted { IfOk result (λ answer. IfLink answer (λ link side. Self.L.dialled link ≡ None)) }
-        ensures lends { IfOk result (λ answer. IfLink answer (λ link side. Lends (served self.old) (out self.old) (out self.new))) }
-        ensures others { (served self.new ≡ served self.old) × (place self.new ≡ place self.old) }
-        ensures cause { HasCause (faults self.old) (faults self.new) result };
+        ensures lends { IfOk result (λ answer. IfLink answer (λ link side. Lends (view self.old).served (view self.old).out (view self.new).out)) }
+        ensures others { ((view self.new).served ≡ (view self.old).served) × ((view self.new).place ≡ (view self.old).place) }
+        ensures cause { HasCause (view self.old).faults (view self.new).faults result };
 
     /// Takes back a link that was served, with its side.
     fn back(&mut self, link: Self::L, side: Self::S)
-        ensures back { TakesBack (served self.old) (served self.new) (out self.old) (out self.new) (served_of (Self.L.written link) (Self.S.sent side)) }
-        ensures others { (coming self.new ≡ coming self.old) × (place self.new ≡ place self.old) }
-        ensures faults { faults self.new ≡ faults self.old };
+        ensures back { TakesBack (view self.old).served (view self.new).served (view self.old).out (view self.new).out (served_of (Self.L.written link) (Self.S.view side).sent) }
+        ensures others { ((view self.new).coming ≡ (view self.old).coming) × ((view self.new).place ≡ (view self.old).place) }
+        ensures faults { (view self.new).faults ≡ (view self.old).faults };
 }

@@ -93,10 +93,10 @@ pub trait Outside {
 
     /// A door that listens at this place. `Failed` raises the count of the network by one, and takes none of the doors.
     fn door(&mut self, place: &Place) -> Result<Self::A, Failed>
-        ensures place { IfOk result (λ door. Self.A.place door ≡ Some (place.now.host, place.now.port)) }
-        ensures next { IfOk result (λ door. OpensNext (doors self.old) (doors self.new) (Self.A.coming door)) }
-        ensures begins { IfOk result (λ door. Begins (doors_back self.old) (Self.A.served door)) }
-        ensures whole { IfOk result (λ door. Self.A.faults door ≡ 0) }
+        ensures place { IfOk result (λ door. (Self.A.view door).place ≡ Some (place.now.host, place.now.port)) }
+        ensures next { IfOk result (λ door. OpensNext (doors self.old) (doors self.new) (Self.A.view door).coming) }
+        ensures begins { IfOk result (λ door. Begins (doors_back self.old) (Self.A.view door).served) }
+        ensures whole { IfOk result (λ door. (Self.A.view door).faults ≡ 0) }
         ensures lends { IfOk result (λ door. Lends (doors_back self.old) (doors_out self.old) (doors_out self.new)) }
         ensures none { OnErr result ((doors self.new ≡ doors self.old) × (doors_out self.new ≡ doors_out self.old)) }
         ensures back { doors_back self.new ≡ doors_back self.old }
@@ -107,9 +107,9 @@ pub trait Outside {
 
     /// A side that dials and tells the time.
     fn side(&mut self) -> <Self::A as Door>::S
-        ensures next { HandsNext (sides self.old) (sides self.new) (Self.A.S.ahead result) (Self.A.S.times result) }
-        ensures begins { Begins (sides_back self.old) (Self.A.S.sent result) }
-        ensures whole { Self.A.S.faults result ≡ 0 }
+        ensures next { HandsNext (sides self.old) (sides self.new) (Self.A.S.view result).ahead (Self.A.S.view result).times }
+        ensures begins { Begins (sides_back self.old) (Self.A.S.view result).sent }
+        ensures whole { (Self.A.S.view result).faults ≡ 0 }
         ensures lends { LendsSide (sides self.old) (sides_back self.old) (sides_out self.old) (sides_out self.new) }
         ensures back { sides_back self.new ≡ sides_back self.old }
         ensures settings { (settings_of self.new ≡ settings_of self.old) × (settings_faults self.new ≡ settings_faults self.old) }
@@ -119,19 +119,19 @@ pub trait Outside {
 
     /// Takes back a door, and counts its faults as those of the network.
     fn back_door(&mut self, door: Self::A)
-        ensures back { TakesBack (doors_back self.old) (doors_back self.new) (doors_out self.old) (doors_out self.new) (door_end (Self.A.place door) (Self.A.coming door) (Self.A.served door)) }
+        ensures back { TakesBack (doors_back self.old) (doors_back self.new) (doors_out self.old) (doors_out self.new) (door_end (Self.A.view door).place (Self.A.view door).coming (Self.A.view door).served) }
         ensures settings { (settings_of self.new ≡ settings_of self.old) × (settings_faults self.new ≡ settings_faults self.old) }
         ensures stores { (held self.new ≡ held self.old) × (lent self.new ≡ lent self.old) × (store_faults self.new ≡ store_faults self.old) }
         ensures doors { doors self.new ≡ doors self.old }
         ensures sides { (sides self.new ≡ sides self.old) × (sides_out self.new ≡ sides_out self.old) × (sides_back self.new ≡ sides_back self.old) }
-        ensures faults { Gathers (network_faults self.old) (network_faults self.new) (Self.A.faults door) };
+        ensures faults { Gathers (network_faults self.old) (network_faults self.new) (Self.A.view door).faults };
 
     /// Takes back a side, and counts its faults as those of the network.
     fn back_side(&mut self, side: <Self::A as Door>::S)
-        ensures back { TakesBack (sides_back self.old) (sides_back self.new) (sides_out self.old) (sides_out self.new) (side_end (Self.A.S.ahead side) (Self.A.S.times side) (Self.A.S.sent side)) }
+        ensures back { TakesBack (sides_back self.old) (sides_back self.new) (sides_out self.old) (sides_out self.new) (side_end (Self.A.S.view side).ahead (Self.A.S.view side).times (Self.A.S.view side).sent) }
         ensures settings { (settings_of self.new ≡ settings_of self.old) × (settings_faults self.new ≡ settings_faults self.old) }
         ensures stores { (held self.new ≡ held self.old) × (lent self.new ≡ lent self.old) × (store_faults self.new ≡ store_faults self.old) }
         ensures doors { (doors self.new ≡ doors self.old) × (doors_out self.new ≡ doors_out self.old) × (doors_back self.new ≡ doors_back self.old) }
         ensures sides { sides self.new ≡ sides self.old }
-        ensures faults { Gathers (network_faults self.old) (network_faults self.new) (Self.A.S.faults side) };
+        ensures faults { Gathers (network_faults self.old) (network_faults self.new) (Self.A.S.view side).faults };
 }

@@ -98,17 +98,9 @@ impl Door for MemDoor {
 
     ghost use Rattle.std.specs.Prelude.{Some, map};
 
-    ghost place = { λ d. d.place };
-
-    ghost coming = { λ d. Some (map coming_of d.coming) };
-
-    ghost served = { λ d. Some (map served_on d.lent.back) };
-
-    ghost out = { λ d. d.lent.out };
+    ghost view = { λ d. record { coming = Some (map coming_of d.coming); served = Some (map served_on d.lent.back); out = d.lent.out; place = d.place; faults = d.faults } };
 
     ghost plan = { plan_of };
-
-    ghost faults = { λ d. d.faults };
 
     fn accept(&mut self) -> Result<Accepted<MemLink, MemSide>, Failed> {
         if self.plan.fails_next() {

@@ -103,17 +103,11 @@ impl Side for MemSide {
 
     ghost use Rattle.std.specs.Prelude.{Some, map};
 
-    ghost ahead = { λ s. Some (map plan_of s.ahead) };
-
-    ghost times = { λ s. Some s.times };
-
-    ghost sent = { λ s. Some (map sent_on s.lent.back) };
+    ghost view = { λ s. record { ahead = Some (map plan_of s.ahead); times = Some s.times; sent = Some (map sent_on s.lent.back); faults = s.faults } };
 
     ghost out = { λ s. s.lent.out };
 
     ghost plan = { plan_of };
-
-    ghost faults = { λ s. s.faults };
 
     fn dial(&mut self, place: &Place) -> Result<MemLink, Failed>
         ensures next { IfOk result (λ link. IsNext place.now link self.old.ahead self.new.ahead) }

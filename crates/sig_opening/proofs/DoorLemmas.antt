@@ -3,7 +3,7 @@ use Rattle.std.proofs.Common.{◌≡◌, ℕ, zero, suc, ◌+◌, ◌<◌, List,
 use Rattle.sig_outside.specs.Causes.{Rose}
 use Rattle.sig_outside.specs.declared.place.Place.{Place}
 use Rattle.sig_links.specs.Told.{Begins, Coming, DoorEnd, Gathers, Lends, OpensNext, TakesBack, door_end, with_last}
-use Rattle.sig_serving.specs.Door.{DoorView}
+use Rattle.sig_links.specs.Views.{DoorView}
 use Rattle.sig_opening.specs.Door.{Doors, ServesAt, doors_of}
 use Rattle.sig_opening.specs.declared.ending.ServeEnd.{ServeEnd}
 

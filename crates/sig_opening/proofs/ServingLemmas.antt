@@ -3,7 +3,7 @@ use Rattle.std.proofs.Common.{◌≡◌, ◌∙◌, ℕ, Bool, List, Option, Res
 use Rattle.sig_journal.specs.declared.fault.LoadFault.{LoadFault}
 use Rattle.sig_links.specs.Told.{Coming, DoorEnd}
 use Rattle.sig_outside.specs.declared.place.Place.{Place}
-use Rattle.sig_serving.specs.Door.{DoorView}
+use Rattle.sig_links.specs.Views.{DoorView}
 use Rattle.sig_opening.specs.Closing.{PutsBack}
 use Rattle.sig_opening.specs.Door.{Doors, ServesAt, doors_of}
 use Rattle.sig_opening.specs.Ends.{ByEnd, IsEndOfWatches, fails_by}

@@ -2,7 +2,7 @@
 use Rattle.std.specs.Prelude.{◌≡◌, ◌⊎◌, List, Option, Some}
 use Rattle.sig_outside.specs.declared.place.Place.{Place}
 use Rattle.sig_links.specs.Told.{Begins, Coming, DoorEnd, OpensNext, door_end, with_last}
-use Rattle.sig_serving.specs.Door.{DoorView}
+use Rattle.sig_links.specs.Views.{DoorView}
 use Rattle.sig_opening.specs.declared.ending.ServeEnd.{ServeEnd}
 use Rattle.sig_opening.specs.declared.ending.ServeEnd.TheVariants.{NetworkFailed}
 

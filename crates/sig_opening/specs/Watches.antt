@@ -1,7 +1,7 @@
 -- The watches of a run, one after the other, whatever a watch is.
 use Rattle.std.specs.Prelude.{◌≡◌, ◌⊎◌, ℕ, ◌<◌, ◌≤◌, List, [], ◌∷◌, ◌++◌, All, length, Bool, true, Option, Some, None}
 use Rattle.sig_logs.specs.declared.difference.Differ.{Differ}
-use Rattle.sig_serving.specs.Door.{DoorView}
+use Rattle.sig_links.specs.Views.{DoorView}
 use Rattle.sig_opening.specs.Ends.{IsEndOfWatches}
 use Rattle.sig_opening.specs.declared.ending.ServeEnd.{ServeEnd}
 use Rattle.sig_opening.specs.declared.ending.ServeEnd.TheVariants.{Done, Disagree, Memory}

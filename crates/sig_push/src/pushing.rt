@@ -33,12 +33,12 @@ pub fn push<S: Side>(
     ensures no_gateway { (result ≡ Err PushFault.NoGateway) ↔ (lacks_gateway rules.now token.now ≡ true) }
 
     // The link that was dialled, where one was: where it led, and what was written to it.
-    ensures sends { Sends rules.now token.now (S.sent side.old) (S.sent side.new) result }
+    ensures sends { Sends rules.now token.now (S.view side.old).sent (S.view side.new).sent result }
 
     // What is answered is what the response settles that this link gave.
-    ensures hears { Hears (S.ahead side.old) (S.ahead side.new) result }
-    ensures times { S.times side.new ≡ S.times side.old }
-    ensures counts { Counts (S.faults side.old) (S.faults side.new) result }
+    ensures hears { Hears (S.view side.old).ahead (S.view side.new).ahead result }
+    ensures times { (S.view side.new).times ≡ (S.view side.old).times }
+    ensures counts { Counts (S.view side.old).faults (S.view side.new).faults result }
 {
     let Some(endpoint) = &token.endpoint else {
         return Err(PushFault::NoEndpoint);

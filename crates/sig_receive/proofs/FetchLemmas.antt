@@ -17,7 +17,7 @@ use Rattle.sig_rxnode.specs.Turns.{changes_of}
 use Rattle.sig_rxnode.specs.declared.rules.Peer.{Peer}
 use Rattle.sig_rxnode.specs.declared.rules.RxRules.{RxRules}
 use Rattle.sig_rxnode.specs.declared.turn.RxTurn.{RxTurn}
-use Rattle.sig_serving.specs.Side.{SideView}
+use Rattle.sig_links.specs.Views.{SideView}
 use Rattle.sig_journal.specs.Store.{pick}
 use Rattle.sig_journal.specs.Appended.{WritesOne}
 use Rattle.sig_opening.specs.Ends.{BreaksBy}

@@ -4,7 +4,7 @@ use Rattle.std.specs.Prelude.{MatchOption}
 use Rattle.sig_receiver.specs.Receiver.{Received, received_of}
 use Rattle.sig_logs.specs.Logs.{Differs, HasTurns}
 use Rattle.sig_logs.specs.declared.difference.Differ.{Differ}
-use Rattle.sig_serving.specs.Door.{DoorView}
+use Rattle.sig_links.specs.Views.{DoorView}
 use Rattle.sig_rxnode.specs.declared.rules.RxRules.{RxRules}
 use Rattle.sig_rxlink.specs.declared.log.RxLinkLog.{RxLinkLog}
 use Rattle.sig_rxnode.specs.Node.{NodeView, base_of, since_of}

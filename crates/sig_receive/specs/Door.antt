@@ -3,7 +3,7 @@ use Rattle.std.specs.Prelude.{ℕ, Bool}
 use Rattle.sig_outside.specs.declared.place.Place.{Place}
 use Rattle.sig_receiver.specs.Receiver.{Received}
 use Rattle.sig_rxnode.specs.Node.{NodeView, files_told}
-use Rattle.sig_serving.specs.Door.{DoorView}
+use Rattle.sig_links.specs.Views.{DoorView}
 use Rattle.sig_opening.specs.Door as door
 use Rattle.sig_opening.specs.Watches.{RunsTo, Standing, standing}
 use Rattle.sig_opening.specs.declared.ending.ServeEnd.{ServeEnd}

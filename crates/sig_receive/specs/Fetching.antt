@@ -16,7 +16,7 @@ use Rattle.sig_outside.specs.Causes.{Rose}
 use Rattle.sig_rxnode.specs.Node.{NodeView, files_told}
 use Rattle.sig_rxnode.specs.Turns.{changes_of}
 use Rattle.sig_rxnode.specs.declared.rules.Peer.{Peer}
-use Rattle.sig_serving.specs.Side.{SideView}
+use Rattle.sig_links.specs.Views.{SideView}
 use Rattle.sig_opening.specs.Files.{IfBoth}
 use Rattle.sig_opening.specs.declared.unread.Unread.{Unread}
 use Rattle.sig_opening.specs.declared.unread.Unread.TheVariants as unread

@@ -1,7 +1,7 @@
 -- The side of a fetch: it is taken before the first round, and given back after the last.
 use Rattle.std.specs.Prelude.{◌≡◌, ◌⊎◌, ℕ, List, [], ◌∷◌, Option, Some, None}
 use Rattle.sig_links.specs.Told.{Begins, HandsNext, SideEnd, SidePlan, side_end, with_last}
-use Rattle.sig_serving.specs.Side.{SideView}
+use Rattle.sig_links.specs.Views.{SideView}
 use Rattle.sig_opening.specs.Stays.{TellsSame}
 
 -- the sides that will be handed out, and those that were given back, where they are told

@@ -1,7 +1,6 @@
 //! The watches of a run, one after the other.
 
 ghost use Rattle.std.specs.Prelude.{◌≡◌, ◌<◌, IfNone, IfSome, None, Some, if◌then◌else◌};
-ghost use Rattle.sig_serving.specs.Door.{door_view};
 ghost use Rattle.sig_opening.specs.Ends.{BreaksAfter};
 ghost use Rattle.sig_opening.specs.Watches.{GoesOn, RunsTo, StopsAt};
 ghost use Rattle.sig_receive.specs.Door.{with_door};
@@ -39,10 +38,10 @@ pub fn run_watches<R: Threads + Wait + Sync, D: Disk + Send, A: Door>(
 ) -> Served<D>
     requires { node.kept.store.broken_at ≡ None }
     ensures runs { RunsTo (IsWatch node.rules) tells_of result.end watches
-        (with_door D.told node (door_view A.coming A.served A.out A.place A.faults door.old))
-        (with_door D.told result.node (door_view A.coming A.served A.out A.place A.faults door.new)) }
+        (with_door D.told node (A.view door.old))
+        (with_door D.told result.node (A.view door.new)) }
     ensures breaks { BreaksAfter result.end result.node.kept.store.broken_at }
-    ensures network { result.end ≡ ServeEnd.NetworkFailed → 0 < A.faults door.new }
+    ensures network { result.end ≡ ServeEnd.NetworkFailed → 0 < (A.view door.new).faults }
 {
     let mut node = node;
     for _ in 0..watches {
@@ -68,14 +67,14 @@ fn run_watch<R: Threads + Wait + Sync, D: Disk + Send, A: Door>(
     requires { node.kept.store.broken_at ≡ None }
     ensures rules { result.node.rules ≡ node.rules }
     ensures goes_on { IfNone result.end (GoesOn (IsWatch node.rules) tells_of
-        (with_door D.told node (door_view A.coming A.served A.out A.place A.faults door.old))
-        (with_door D.told result.node (door_view A.coming A.served A.out A.place A.faults door.new))) }
+        (with_door D.told node (A.view door.old))
+        (with_door D.told result.node (A.view door.new))) }
     ensures stops { IfSome result.end (λ end. StopsAt (IsWatch node.rules) tells_of end
-        (with_door D.told node (door_view A.coming A.served A.out A.place A.faults door.old))
-        (with_door D.told result.node (door_view A.coming A.served A.out A.place A.faults door.new))) }
+        (with_door D.told node (A.view door.old))
+        (with_door D.told result.node (A.view door.new))) }
     ensures whole { IfNone result.end (result.node.kept.store.broken_at ≡ None) }
     ensures breaks { IfSome result.end (λ end. BreaksAfter end result.node.kept.store.broken_at) }
-    ensures network { IfSome result.end (λ end. end ≡ ServeEnd.NetworkFailed → 0 < A.faults door.new) }
+    ensures network { IfSome result.end (λ end. end ≡ ServeEnd.NetworkFailed → 0 < (A.view door.new).faults) }
 {
     match serve_watch(alloc, rt, node, door) {
         WatchEnd::Done { node, report } => Watched {

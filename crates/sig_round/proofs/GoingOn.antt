@@ -8,7 +8,7 @@ use Rattle.sig_terms.specs.declared.token.Token.{Token}
 use Rattle.sig_txnode.specs.Told.{TakerTold}
 use Rattle.sig_txnode.specs.declared.turn.Turn.{Turn}
 use Rattle.sig_round.specs.Delivered.{Delivered}
-use Rattle.sig_serving.specs.Side.{SideView}
+use Rattle.sig_links.specs.Views.{SideView}
 use Rattle.sig_round.specs.Turns.{Asker}
 use Rattle.sig_round.proofs.MorePushes.{delivered_err, delivered_none, delivered_on}
 

@@ -13,7 +13,7 @@ use Rattle.sig_terms.specs.declared.token.Token.{Token}
 use Rattle.sig_txnode.specs.declared.turn.Turn.{Turn}
 use Rattle.sig_txnode.specs.Told.{TakerTold}
 use Rattle.sig_round.specs.Delivered.{Delivered, Delivers, HearsAll, IsJudged, SendsAll}
-use Rattle.sig_serving.specs.Side.{SideView}
+use Rattle.sig_links.specs.Views.{SideView}
 use Rattle.sig_round.specs.Turns.{Adds, AddsTurnOf, Asker, IsTurnOf}
 use Rattle.sig_round.proofs.Grown.{adds_none}
 

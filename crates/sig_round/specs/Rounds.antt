@@ -11,7 +11,7 @@ use Rattle.sig_terms.specs.declared.token.Token.{Token}
 use Rattle.sig_txnode.specs.Told.{TakerTold}
 use Rattle.sig_txnode.specs.declared.turn.Turn.{Turn}
 use Rattle.sig_round.specs.Delivered.{Delivers}
-use Rattle.sig_serving.specs.Side.{SideView}
+use Rattle.sig_links.specs.Views.{SideView}
 use Rattle.sig_round.specs.Turns.{Adds, Asker, IsTurnOf}
 
 -- the tokens that an answer hands to a round

@@ -2,7 +2,6 @@
 
 ghost use Rattle.std.specs.Prelude.{◌≡◌, [], ◌∷◌, IfOk, OnErr, OnOk};
 ghost use Rattle.sig_round.specs.Delivered.{Delivered};
-ghost use Rattle.sig_serving.specs.Side.{view_of};
 ghost use Rattle.sig_round.specs.Turns.{Adds, AddsTurnOf};
 
 use crate::TurnLog;
@@ -24,7 +23,7 @@ pub fn deliver_all<R: Wait, K: Taker, S: Side>(
     side: &mut S,
     log: &mut TurnLog,
 ) -> Result<(), PushFault>
-    ensures delivered { Delivered rules.now (record { link = log.old.link; now = log.old.now }) tokens.now (view_of S.ahead S.times S.sent S.faults side.old) (view_of S.ahead S.times S.sent S.faults side.new) log.old.turns.items log.new.turns.items (K.told taker.old) (K.told taker.new) result }
+    ensures delivered { Delivered rules.now (record { link = log.old.link; now = log.old.now }) tokens.now (S.view side.old) (S.view side.new) log.old.turns.items log.new.turns.items (K.told taker.old) (K.told taker.new) result }
     ensures link { log.new.link ≡ log.old.link }
     ensures now { log.new.now ≡ log.old.now }
 {
@@ -44,7 +43,7 @@ fn deliver<R: Wait, K: Taker, S: Side>(
     side: &mut S,
     log: &mut TurnLog,
 ) -> Result<(), PushFault>
-    ensures delivered { Delivered rules.now (record { link = log.old.link; now = log.old.now }) (token.now ∷ []) (view_of S.ahead S.times S.sent S.faults side.old) (view_of S.ahead S.times S.sent S.faults side.new) log.old.turns.items log.new.turns.items (K.told taker.old) (K.told taker.new) result }
+    ensures delivered { Delivered rules.now (record { link = log.old.link; now = log.old.now }) (token.now ∷ []) (S.view side.old) (S.view side.new) log.old.turns.items log.new.turns.items (K.told taker.old) (K.told taker.new) result }
     ensures link { log.new.link ≡ log.old.link }
     ensures now { log.new.now ≡ log.old.now }
 {

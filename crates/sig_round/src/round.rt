@@ -2,7 +2,6 @@
 
 ghost use Rattle.std.specs.Prelude.{◌≡◌, [], ◌∷◌, ◌++◌, List, IfOk};
 ghost use Rattle.sig_round.specs.Delivered.{Delivered};
-ghost use Rattle.sig_serving.specs.Side.{view_of};
 ghost use Rattle.sig_round.specs.Rounds as handed;
 ghost use Rattle.sig_round.specs.Rounds.{Rounded};
 ghost use Rattle.sig_txnode.specs.declared.turn.Turn.{Turn};
@@ -31,7 +30,7 @@ pub fn push_round<R: Wait, K: Taker, S: Side>(
     side: &mut S,
     log: &mut TurnLog,
 ) -> Result<(), PushFault>
-    ensures round { Rounded rules.now (record { link = log.old.link; now = log.old.now }) streams (view_of S.ahead S.times S.sent S.faults side.old) (view_of S.ahead S.times S.sent S.faults side.new) log.old.turns.items log.new.turns.items (K.told taker.old) (K.told taker.new) result }
+    ensures round { Rounded rules.now (record { link = log.old.link; now = log.old.now }) streams (S.view side.old) (S.view side.new) log.old.turns.items log.new.turns.items (K.told taker.old) (K.told taker.new) result }
     ensures link { log.new.link ≡ log.old.link }
     ensures now { log.new.now ≡ log.old.now }
 {
@@ -51,7 +50,7 @@ fn deliver_handed<R: Wait, K: Taker, S: Side>(
     log: &mut TurnLog,
 ) -> Result<(), PushFault>
     ensures delivered { (earlier : List Turn) (hand : Turn) → log.old.turns.items ≡ earlier ++ hand ∷ []
-        → Delivered rules.now (record { link = log.old.link; now = log.old.now }) (handed.tokens_in hand.result) (view_of S.ahead S.times S.sent S.faults side.old) (view_of S.ahead S.times S.sent S.faults side.new) log.old.turns.items log.new.turns.items (K.told taker.old) (K.told taker.new) result }
+        → Delivered rules.now (record { link = log.old.link; now = log.old.now }) (handed.tokens_in hand.result) (S.view side.old) (S.view side.new) log.old.turns.items log.new.turns.items (K.told taker.old) (K.told taker.new) result }
     ensures link { log.new.link ≡ log.old.link }
     ensures now { log.new.now ≡ log.old.now }
 {

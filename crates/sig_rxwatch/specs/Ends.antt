@@ -1,7 +1,7 @@
 -- How a watch of a receiver ends.
 use Rattle.std.specs.Prelude.{◌≡◌, ℕ, List, Bool, is_some}
 use Rattle.sig_receiver.specs.Receiver.{received_of}
-use Rattle.sig_serving.specs.Door.{DoorView}
+use Rattle.sig_links.specs.Views.{DoorView}
 use Rattle.sig_rxnode.specs.declared.rules.RxRules.{RxRules}
 use Rattle.sig_rxlink.specs.declared.log.RxLinkLog.{RxLinkLog}
 use Rattle.sig_rxnode.specs.Holding.{IsHolding}

@@ -4,7 +4,7 @@ use Rattle.std.specs.Prelude.{MatchOption}
 use Rattle.sig_history.specs.Owed.{Sum, sum_of}
 use Rattle.sig_logs.specs.Logs.{Differs, HasTurns}
 use Rattle.sig_logs.specs.declared.difference.Differ.{Differ}
-use Rattle.sig_serving.specs.Door.{DoorView}
+use Rattle.sig_links.specs.Views.{DoorView}
 use Rattle.sig_terms.specs.declared.rules.Rules.{Rules}
 use Rattle.sig_txlink.specs.declared.log.LinkLog.{LinkLog}
 use Rattle.sig_txnode.specs.Node.{NodeView}

@@ -70,17 +70,9 @@ impl<R: Net<Listener = TcpListener, Stream = TcpStream> + Clock + Copy + Send> D
 
     type S = TcpSide<R>;
 
-    ghost place = { λ d. d.place };
-
-    ghost coming = { λ d. None };
-
-    ghost served = { λ d. None };
-
-    ghost out = { λ d. 0 };
+    ghost view = { λ d. record { coming = None; served = None; out = 0; place = d.place; faults = d.faults } };
 
     ghost plan = { λ l. untold };
-
-    ghost faults = { λ d. d.faults };
 
     // It never answers that no link will come.
     fn accept(&mut self) -> Result<Accepted<TcpLink, TcpSide<R>>, Failed>

@@ -59,17 +59,11 @@ impl<R> TcpSide<R> {
 impl<R: Net<Stream = TcpStream> + Clock> Side for TcpSide<R> {
     type L = TcpLink;
 
-    ghost ahead = { λ s. None };
-
-    ghost times = { λ s. None };
-
-    ghost sent = { λ s. None };
+    ghost view = { λ s. record { ahead = None; times = None; sent = None; faults = s } };
 
     ghost out = { λ s. 0 };
 
     ghost plan = { λ l. untold };
-
-    ghost faults = { λ s. s };
 
     fn dial(&mut self, place: &Place) -> Result<TcpLink, Failed>
         ensures link { IfOk result (λ link. link ≡ unused (Some (pair_of place.now))) }

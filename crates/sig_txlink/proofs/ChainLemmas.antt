@@ -5,7 +5,7 @@ use Rattle.std.proofs.KnownBytes.{Appends-trans, Appends-nil}
 use Rattle.sig_http.specs.Message.{DecidesRequest, Whole}
 use Rattle.sig_push.specs.declared.fault.PushFault.{PushFault}
 use Rattle.sig_push.specs.declared.fault.PushFault.TheVariants as pushes
-use Rattle.sig_serving.specs.Side.{SideView}
+use Rattle.sig_links.specs.Views.{SideView}
 use Rattle.sig_round.specs.Turns.{Adds}
 use Rattle.sig_round.proofs.Grown.{adds_none, adds_on}
 use Rattle.sig_terms.specs.declared.rules.Rules.{Rules}

@@ -6,7 +6,7 @@ use Rattle.sig_terms.specs.declared.rules.Rules.{Rules}
 use Rattle.sig_txnode.specs.Told.{TakerTold}
 use Rattle.sig_txnode.specs.declared.turn.Turn.{Turn}
 use Rattle.sig_txlink.specs.Exchange.{Exchange, GoesOn}
-use Rattle.sig_serving.specs.Side.{SideView}
+use Rattle.sig_links.specs.Views.{SideView}
 use Rattle.sig_txlink.specs.Moment.{desk_of, Moment, moment}
 use Rattle.sig_serving.specs.Line.{Line}
 use Rattle.sig_txlink.specs.Serving.{Cut, Done, Exchanges, Passes, PassesBy, RunsOut, Serves, Standing}

@@ -1,7 +1,7 @@
 -- What a turn leaves of the side.
 use Rattle.std.proofs.Common.{◌≡◌, ℕ, List, Option, ap, ◌∙◌}
 use Rattle.sig_links.specs.Told.{GivesTime, LinkPlan, Sent}
-use Rattle.sig_serving.specs.Side.{SideView}
+use Rattle.sig_links.specs.Views.{SideView}
 use Rattle.sig_txlink.specs.Moment.{TellsTime}
 
 -- the side told a time, and all else of it stays

@@ -5,7 +5,7 @@ use Rattle.sig_http.specs.Message.{DecidesRequest, Whole}
 use Rattle.sig_http.specs.declared.message.Request.{Request}
 use Rattle.sig_push.specs.declared.fault.PushFault.{PushFault}
 use Rattle.sig_push.specs.declared.fault.PushFault.TheVariants.{Memory}
-use Rattle.sig_serving.specs.Side.{SideView}
+use Rattle.sig_links.specs.Views.{SideView}
 use Rattle.sig_terms.specs.declared.rules.Rules.{Rules}
 use Rattle.sig_txnode.specs.declared.turn.Turn.{Turn}
 use Rattle.sig_txlink.specs.Answering.{text_of}

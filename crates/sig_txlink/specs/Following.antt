@@ -1,7 +1,7 @@
 -- The push round after a request: where one follows, over which streams, and what it makes (RFC 8935, section 2).
 use Rattle.std.specs.Prelude.{◌≡◌, List, [], ◌∷◌, ◌++◌, map, Option, Some, None, Result, Ok, Err, IsOk, ⊤, ℕ}
 use Rattle.sig_push.specs.declared.fault.PushFault.{PushFault}
-use Rattle.sig_serving.specs.Side.{SideView}
+use Rattle.sig_links.specs.Views.{SideView}
 use Rattle.sig_round.specs.Rounds.{IsRound}
 use Rattle.sig_round.specs.Turns.{Adds, Asker, Grew}
 use Rattle.sig_journal.specs.declared.node_fault.NodeFault.{NodeFault}

@@ -2,7 +2,7 @@
 use Rattle.std.specs.Prelude.{◌≡◌, ◌⊎◌, ℕ, List, ◌++◌, Option, option_map}
 use Rattle.sig_serving.specs.Line.{Line}
 use Rattle.sig_links.specs.Told.{GivesTime}
-use Rattle.sig_serving.specs.Side.{SideView}
+use Rattle.sig_links.specs.Views.{SideView}
 use Rattle.sig_txnode.specs.Told.{TakerTold}
 use Rattle.sig_txnode.specs.declared.turn.Turn.{Turn}
 

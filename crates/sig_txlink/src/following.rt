@@ -1,7 +1,6 @@
 //! The push round that follows a request which was answered.
 
 ghost use Rattle.std.specs.Prelude.{◌≡◌, ◌∷◌, [], IfOk, IsSome, OnErr, map};
-ghost use Rattle.sig_serving.specs.Side.{view_of};
 ghost use Rattle.sig_round.specs.Turns.{HasRoom};
 ghost use Rattle.sig_terms.specs.declared.token.Issued.{Issued};
 ghost use Rattle.sig_txlink.specs.Following as spec;
@@ -30,7 +29,7 @@ pub fn follow<R: Wait, K: Taker, S: Side>(
     course: Course,
 ) -> Result<(), PushFault>
     requires { HasRoom work.old.log }
-    ensures follows { Follows rules.now (asker work.old.log) course (view_of S.ahead S.times S.sent S.faults side.old) (view_of S.ahead S.times S.sent S.faults side.new) work.old.log.turns.items work.new.log.turns.items (K.told taker.old) (K.told taker.new) result }
+    ensures follows { Follows rules.now (asker work.old.log) course (S.view side.old) (S.view side.new) work.old.log.turns.items work.new.log.turns.items (K.told taker.old) (K.told taker.new) result }
     ensures beside { SameBeside work.old work.new }
 {
     let streams = streams_after(work.alloc, &course);
@@ -50,7 +49,7 @@ fn push_streams<R: Wait, K: Taker, S: Side>(
     work: &mut Work,
     streams: Option<Items<Text>>,
 ) -> Result<(), PushFault>
-    ensures pushes { Pushes rules.now (asker work.old.log) streams (view_of S.ahead S.times S.sent S.faults side.old) (view_of S.ahead S.times S.sent S.faults side.new) work.old.log.turns.items work.new.log.turns.items (K.told taker.old) (K.told taker.new) result }
+    ensures pushes { Pushes rules.now (asker work.old.log) streams (S.view side.old) (S.view side.new) work.old.log.turns.items work.new.log.turns.items (K.told taker.old) (K.told taker.new) result }
     ensures beside { SameBeside work.old work.new }
 {
     match streams {

@@ -2,7 +2,6 @@
 
 ghost use Rattle.std.specs.Prelude.{◌≡◌, ◌<◌, ℕ, List, []};
 ghost use Rattle.sig_txlink.specs.Exchange as spec;
-ghost use Rattle.sig_serving.specs.Side.{view_of};
 ghost use Rattle.sig_txlink.specs.Moment.{desk_of, moment};
 ghost use Rattle.sig_serving.specs.Line.{seen};
 ghost use Rattle.sig_txlink.specs.Serving as serving;
@@ -53,8 +52,8 @@ pub fn serve_link<R: Wait, K: Taker, L: Link, S: Side>(
 
     // The link was served from its first byte on, with no turn at first, and the log has the turns and the end.
     ensures serves { (kept : List ℕ) × Serves rules.now link result.end
-        (moment [] (seen L.left L.written L.Source.faults L.Sink.faults stream.old) (desk_of (view_of S.ahead S.times S.sent S.faults side.old) (K.told taker.old) []))
-        (moment kept (seen L.left L.written L.Source.faults L.Sink.faults stream.new) (desk_of (view_of S.ahead S.times S.sent S.faults side.new) (K.told taker.new) result.turns)) }
+        (moment [] (seen L.left L.written L.Source.faults L.Sink.faults stream.old) (desk_of (S.view side.old) (K.told taker.old) []))
+        (moment kept (seen L.left L.written L.Source.faults L.Sink.faults stream.new) (desk_of (S.view side.new) (K.told taker.new) result.turns)) }
 
     // Where the link was dialled, or that it was accepted, stays.
     ensures place { L.dialled stream.new ≡ L.dialled stream.old }
@@ -99,8 +98,8 @@ fn serve_all<R: Wait, K: Taker, L: Link, S: Side>(
 ) -> LinkEnd
     requires { work.old.answered ≡ 0 }
     ensures serves { Serves rules.now work.old.log.link result
-        (moment work.old.kept (seen L.left L.written L.Source.faults L.Sink.faults stream.old) (desk_of (view_of S.ahead S.times S.sent S.faults side.old) (K.told taker.old) work.old.log.turns.items))
-        (moment work.new.kept (seen L.left L.written L.Source.faults L.Sink.faults stream.new) (desk_of (view_of S.ahead S.times S.sent S.faults side.new) (K.told taker.new) work.new.log.turns.items)) }
+        (moment work.old.kept (seen L.left L.written L.Source.faults L.Sink.faults stream.old) (desk_of (S.view side.old) (K.told taker.old) work.old.log.turns.items))
+        (moment work.new.kept (seen L.left L.written L.Source.faults L.Sink.faults stream.new) (desk_of (S.view side.new) (K.told taker.new) work.new.log.turns.items)) }
     ensures place { L.dialled stream.new ≡ L.dialled stream.old }
 {
     while work.answered < REQUESTS_PER_LINK {
@@ -123,8 +122,8 @@ fn serve_next<R: Wait, K: Taker, L: Link, S: Side>(
 ) -> Option<LinkEnd>
     requires { work.old.answered < REQUESTS_PER_LINK }
     ensures passes { Passes rules.now work.old.log.link work.old.answered result
-        (moment work.old.kept (seen L.left L.written L.Source.faults L.Sink.faults stream.old) (desk_of (view_of S.ahead S.times S.sent S.faults side.old) (K.told taker.old) work.old.log.turns.items))
-        (moment work.new.kept (seen L.left L.written L.Source.faults L.Sink.faults stream.new) (desk_of (view_of S.ahead S.times S.sent S.faults side.new) (K.told taker.new) work.new.log.turns.items)) }
+        (moment work.old.kept (seen L.left L.written L.Source.faults L.Sink.faults stream.old) (desk_of (S.view side.old) (K.told taker.old) work.old.log.turns.items))
+        (moment work.new.kept (seen L.left L.written L.Source.faults L.Sink.faults stream.new) (desk_of (S.view side.new) (K.told taker.new) work.new.log.turns.items)) }
     ensures counts { (work.new.log.link ≡ work.old.log.link) × (work.new.answered ≡ work.old.answered) }
     ensures place { L.dialled stream.new ≡ L.dialled stream.old }
 {
@@ -150,7 +149,7 @@ fn answer<R: Wait, K: Taker, L: Link, S: Side>(
     requires { work.old.answered < REQUESTS_PER_LINK }
     ensures answers { AnswersRequest rules.now work.old.log.link work.old.answered request.now result
         (seen L.left L.written L.Source.faults L.Sink.faults stream.old) (seen L.left L.written L.Source.faults L.Sink.faults stream.new)
-        (desk_of (view_of S.ahead S.times S.sent S.faults side.old) (K.told taker.old) work.old.log.turns.items) (desk_of (view_of S.ahead S.times S.sent S.faults side.new) (K.told taker.new) work.new.log.turns.items) }
+        (desk_of (S.view side.old) (K.told taker.old) work.old.log.turns.items) (desk_of (S.view side.new) (K.told taker.new) work.new.log.turns.items) }
     ensures left { L.left stream.new ≡ L.left stream.old }
     ensures reads { L.Source.faults stream.new ≡ L.Source.faults stream.old }
     ensures place { L.dialled stream.new ≡ L.dialled stream.old }

@@ -2,7 +2,6 @@
 
 ghost use Rattle.std.specs.Prelude.{◌≡◌, ◌++◌, ◌∷◌, [], IfOk, OnErr, OnOk};
 ghost use Rattle.sig_calls.specs.Proper.{IsProperCall};
-ghost use Rattle.sig_serving.specs.Side.{view_of};
 ghost use Rattle.sig_round.specs.Turns.{Grew, HasRoom, IsTurnOf};
 ghost use Rattle.sig_txlink.specs.Moment.{TellsTime, TellsTimeAtMost};
 ghost use Rattle.sig_txlink.specs.Turning.{Comes, own_turn};
@@ -28,11 +27,11 @@ pub fn course_of<R: Wait, K: Taker, S: Side>(
     work: &mut Work,
     request: &Request,
 ) -> Result<Course, Memory>
-    ensures comes { IfOk result (λ course. Comes rules.now (asker work.new.log) request.now course (view_of S.ahead S.times S.sent S.faults side.old) (view_of S.ahead S.times S.sent S.faults side.new)) }
+    ensures comes { IfOk result (λ course. Comes rules.now (asker work.new.log) request.now course (S.view side.old) (S.view side.new)) }
     ensures told { IfOk result (λ course. Grew (K.told taker.old) (K.told taker.new) (own_turn course)) }
     ensures room { OnOk result (HasRoom work.new.log) }
     ensures memory { OnErr result (K.told taker.new ≡ K.told taker.old) }
-    ensures asked { OnErr result (TellsTimeAtMost (view_of S.ahead S.times S.sent S.faults side.old) (view_of S.ahead S.times S.sent S.faults side.new)) }
+    ensures asked { OnErr result (TellsTimeAtMost (S.view side.old) (S.view side.new)) }
     ensures turns { work.new.log.turns.items ≡ work.old.log.turns.items }
     ensures beside { SameBeside work.old work.new }
 {
@@ -57,7 +56,7 @@ fn turn_of<R: Wait, K: Taker, S: Side>(
 ) -> Result<Turn, Memory>
     requires { IsProperCall call }
     ensures turn { IfOk result (IsTurnOf (asker log.new) call) }
-    ensures time { TellsTime log.new.now (view_of S.ahead S.times S.sent S.faults side.old) (view_of S.ahead S.times S.sent S.faults side.new) }
+    ensures time { TellsTime log.new.now (S.view side.old) (S.view side.new) }
     ensures told { IfOk result (λ turn. Grew (K.told taker.old) (K.told taker.new) (turn ∷ [])) }
     ensures memory { OnErr result (K.told taker.new ≡ K.told taker.old) }
     ensures room { HasRoom log.old → HasRoom log.new }

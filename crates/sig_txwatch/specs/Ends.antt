@@ -1,7 +1,7 @@
 -- How a watch of a transmitter ends.
 use Rattle.std.specs.Prelude.{◌≡◌, ℕ, List, Bool, is_some}
 use Rattle.sig_history.specs.Owed.{sum_of}
-use Rattle.sig_serving.specs.Door.{DoorView}
+use Rattle.sig_links.specs.Views.{DoorView}
 use Rattle.sig_terms.specs.declared.rules.Rules.{Rules}
 use Rattle.sig_txlink.specs.declared.log.LinkLog.{LinkLog}
 use Rattle.sig_txnode.specs.Node.{IsNode, NodeView, files_told}

@@ -1,7 +1,6 @@
 //! A watch from its opening to its end.
 
 ghost use Rattle.std.specs.Prelude.{◌≡◌, Some, None, IfOk};
-ghost use Rattle.sig_serving.specs.Door.{door_view};
 ghost use Rattle.sig_txnode.specs.Node.{IsNode};
 ghost use Rattle.sig_txwatch.specs.Ends.{Follows, IsOneHistory, WhyEnded};
 ghost use Rattle.sig_txwatch.specs.Opening.{told_before};
@@ -47,7 +46,7 @@ pub fn serve_watch<R: Threads + Wait + Sync, D: Disk + Send, A: Door>(
     // The links were served side by side, and went back to the door; and how the watch ends is by why it accepts no further
     // one, by the comparison of turns and by the node.
     ensures links { IfReport result (λ now report. WhyEnded node.rules report result
-        (door_view A.coming A.served A.out A.place A.faults door.old) (door_view A.coming A.served A.out A.place A.faults door.new)) }
+        (A.view door.old) (A.view door.new)) }
 
     ensures memory { HandsBack node door.old door.new result }
 {
@@ -86,7 +85,7 @@ fn watch<O: Opened + Send, R: Threads + Wait + Sync, D: Disk + Send, A: Door>(
     ensures stays { IfReport result (λ now report. told_before D.told now ≡ told_before D.told node) }
     ensures kept { IfReport result (λ now report. IsNode D.told D.seen D.may_leave now) }
     ensures links { IfReport result (λ now report. WhyEnded rules report result
-        (door_view A.coming A.served A.out A.place A.faults door.old) (door_view A.coming A.served A.out A.place A.faults door.new)) }
+        (A.view door.old) (A.view door.new)) }
     ensures reported { IsReported result }
 {
     let host = TxHost {

@@ -3,9 +3,9 @@ use Rattle.std.proofs.Common.{◌≡◌, subst, sym}
 use Rattle.sig_links.specs.declared.accepted.Accepted.{Accepted}
 use Rattle.sig_links.specs.declared.accepted.Accepted.TheVariants.{Link}
 use Rattle.sig_links.specs.Told.{AcceptsNext, Begins, IfLink, Lends, LinkPlan}
-use Rattle.sig_serving.specs.Door.{DoorView}
+use Rattle.sig_links.specs.Views.{DoorView}
 use Rattle.sig_serving.specs.Line.{Line}
-use Rattle.sig_serving.specs.Side.{SideView}
+use Rattle.sig_links.specs.Views.{SideView}
 use Rattle.sig_watch.specs.Accepting.{Gives}
 use Rattle.sig_watch.specs.Sights.{Sight, sight}
 

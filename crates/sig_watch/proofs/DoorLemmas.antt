@@ -1,6 +1,6 @@
 -- A door that failed counted it.
 use Rattle.std.proofs.Common.{◌≡◌, ℕ, ◌+◌, ◌<◌, List, [], ◌∷◌, subst, arith}
-use Rattle.sig_serving.specs.Door.{DoorView}
+use Rattle.sig_links.specs.Views.{DoorView}
 use Rattle.sig_serving.specs.declared.stop.Stop.{Stop}
 use Rattle.sig_serving.specs.declared.stop.Stop.TheVariants.{Failed}
 use Rattle.sig_watch.specs.Accepting.{Accepts}

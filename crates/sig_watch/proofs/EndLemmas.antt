@@ -1,6 +1,6 @@
 -- What holds of the node that is handed back and of the report.
 use Rattle.std.proofs.Common.{◌≡◌, ℕ, Bool, List, sym, subst}
-use Rattle.sig_serving.specs.Door.{DoorView}
+use Rattle.sig_links.specs.Views.{DoorView}
 use Rattle.sig_serving.specs.Stops.{is_shut}
 use Rattle.sig_serving.specs.declared.stop.Stop.{Stop}
 use Rattle.sig_watch.specs.Attending.{Attends}

@@ -3,7 +3,7 @@ use Rattle.std.proofs.Common.{◌≡◌, ◌∙◌, ℕ, ◌+◌, zero, suc, Lis
 use Rattle.std.specs.Prelude.{IfSome, length, option_to_list}
 use Rattle.std.proofs.lemmas.List.{reverse-append}
 use Rattle.sig_links.specs.Told.{Lends, Served, TakesBack, served_of, with_last}
-use Rattle.sig_serving.specs.Door.{DoorView}
+use Rattle.sig_links.specs.Views.{DoorView}
 use Rattle.sig_serving.specs.declared.stop.Stop.{Stop}
 use Rattle.sig_serving.specs.declared.stop.Stop.TheVariants.{Spent, Shut, Failed}
 use Rattle.sig_watch.specs.Accepting.{Accepts, StopsBy}

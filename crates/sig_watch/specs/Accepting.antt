@@ -3,7 +3,7 @@ use Rattle.std.specs.Prelude.{◌≡◌, ℕ, ◌+◌, ◌<◌, List, [], ◌∷
 use Rattle.sig_json.specs.declared.limits.TheConstants.{LINKS_PER_WATCH}
 use Rattle.sig_outside.specs.Causes.{Raised}
 use Rattle.sig_links.specs.Told.{AcceptsNext, Begins, IsShut, Lends, LinkPlan}
-use Rattle.sig_serving.specs.Door.{DoorView}
+use Rattle.sig_links.specs.Views.{DoorView}
 use Rattle.sig_serving.specs.declared.stop.Stop.{Stop}
 use Rattle.sig_serving.specs.declared.stop.Stop.TheVariants.{Spent, Shut, Failed}
 use Rattle.sig_watch.specs.Sights.{Sight}

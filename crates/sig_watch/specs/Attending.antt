@@ -1,7 +1,7 @@
 -- A watch of a door: its links came, were served, and went back.
 use Rattle.std.specs.Prelude.{◌≡◌, ℕ, ◌+◌, List, [], ◌∷◌, Option, IfSome}
 use Rattle.sig_links.specs.Told.{Served, served_of, with_last}
-use Rattle.sig_serving.specs.Door.{DoorView}
+use Rattle.sig_links.specs.Views.{DoorView}
 use Rattle.sig_serving.specs.declared.stop.Stop.{Stop}
 use Rattle.sig_watch.specs.Accepting.{Accepts}
 use Rattle.sig_watch.specs.Sights.{Sight}

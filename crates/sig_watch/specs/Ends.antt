@@ -1,7 +1,7 @@
 -- How a watch ends, and what it gives back.
 use Rattle.std.specs.Prelude.{◌≡◌, ◌≢◌, ℕ, List, Bool, true, false}
 use Rattle.sig_logs.specs.Logs.{Differs, HasTurns}
-use Rattle.sig_serving.specs.Door.{DoorView}
+use Rattle.sig_links.specs.Views.{DoorView}
 use Rattle.sig_serving.specs.Stops.{is_shut}
 use Rattle.sig_serving.specs.declared.stop.Stop.{Stop}
 use Rattle.sig_serving.specs.declared.stop.Stop.TheVariants.{Failed}

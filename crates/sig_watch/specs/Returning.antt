@@ -1,7 +1,7 @@
 -- The way back of the links of a watch, one by one.
 use Rattle.std.specs.Prelude.{◌≡◌, List, [], ◌∷◌}
 use Rattle.sig_links.specs.Told.{TakesBack, served_of}
-use Rattle.sig_serving.specs.Door.{DoorView}
+use Rattle.sig_links.specs.Views.{DoorView}
 use Rattle.sig_watch.specs.Sights.{Sight}
 
 -- the door took this link back

@@ -3,7 +3,6 @@
 ghost use Rattle.std.specs.Prelude.{◌≡◌, ◌≤◌, ◌<◌, ◌+◌, ◌++◌, ◌∷◌, List, vec_capacity, vec_len};
 ghost use Rattle.std.specs.Thread.{IsSync};
 ghost use Rattle.sig_json.specs.declared.limits.TheConstants.{LINKS_PER_WATCH};
-ghost use Rattle.sig_serving.specs.Door.{door_view};
 ghost use Rattle.sig_watch.specs.Accepting.{Accepts};
 ghost use Rattle.sig_watch.specs.Finished.{AreFinished};
 ghost use Rattle.sig_watch.specs.Sights.{Sight};
@@ -37,7 +36,7 @@ where
     requires most { before ≤ LINKS_PER_WATCH }
     requires room { vec_len finished.old + LINKS_PER_WATCH ≤ vec_capacity finished.old + before }
     ensures accepts { (came : List Sight) × (added : List V)
-        × Accepts result before came (door_view A.coming A.served A.out A.place A.faults door.old) (door_view A.coming A.served A.out A.place A.faults door.new)
+        × Accepts result before came (A.view door.old) (A.view door.new)
         × (finished.new.items ≡ finished.old.items ++ added) × AreFinished (H.serves host.now) V.log_of V.seen_of before came added }
     ensures few { vec_len finished.new + before ≤ vec_len finished.old + LINKS_PER_WATCH }
     ensures capacity { vec_capacity finished.new ≡ vec_capacity finished.old }
@@ -74,7 +73,7 @@ where
     requires most { before < LINKS_PER_WATCH }
     requires room { vec_len finished.old + LINKS_PER_WATCH ≤ vec_capacity finished.old + before }
     ensures accepts { (came : List Sight) × (added : List V)
-        × Accepts result (before + 1) came (door_view A.coming A.served A.out A.place A.faults door.old) (door_view A.coming A.served A.out A.place A.faults door.new)
+        × Accepts result (before + 1) came (A.view door.old) (A.view door.new)
         × (finished.new.items ≡ finished.old.items ++ added) × AreFinished (H.serves host.now) V.log_of V.seen_of before (V.seen_of visit ∷ came) added }
     ensures few { vec_len finished.new + before ≤ vec_len finished.old + LINKS_PER_WATCH }
     ensures capacity { vec_capacity finished.new ≡ vec_capacity finished.old }
@@ -87,7 +86,7 @@ where
             requires room { vec_len finished.now + LINKS_PER_WATCH ≤ vec_capacity finished.now + before }
             requires shared { IsSync R.row × IsSync H.row }
             ensures accepts { (came : List Sight) × (added : List V)
-                × Accepts result (before + 1) came (door_view A.coming A.served A.out A.place A.faults door.entry.now) (door_view A.coming A.served A.out A.place A.faults door.exit.now)
+                × Accepts result (before + 1) came (A.view door.entry.now) (A.view door.exit.now)
                 × (finished.exit.now.items ≡ finished.entry.now.items ++ added) × AreFinished (H.serves host.entry.now) V.log_of V.seen_of (before + 1) came added }
             ensures few { vec_len finished.exit.now + before + 1 ≤ vec_len finished.entry.now + LINKS_PER_WATCH }
             ensures capacity { vec_capacity finished.exit.now ≡ vec_capacity finished.entry.now }

@@ -1,9 +1,7 @@
 //! A whole watch of a door.
 
 ghost use Rattle.std.specs.Prelude.{◌≡◌, ◌≤◌, ◌<◌, ◌+◌, ◌++◌, flat_map, map, option_to_list, reverse, vec_capacity, vec_len};
-ghost use Rattle.sig_serving.specs.Door.{door_view};
 ghost use Rattle.sig_serving.specs.Line.{seen};
-ghost use Rattle.sig_serving.specs.Side.{view_of};
 ghost use Rattle.sig_watch.specs.Attending.{Attends};
 ghost use Rattle.sig_watch.specs.Returning.{AreBack};
 ghost use Rattle.sig_watch.specs.Sights.{sight};
@@ -37,7 +35,7 @@ pub fn attend<R: Threads + Wait + Sync, H: Host + Sync, A: Door>(
     door: &mut A,
     room: Room<A::L, A::S, H::Log>,
 ) -> Attended<H::Log>
-    ensures { Attends (H.serves host.now) result.stop result.logs (door_view A.coming A.served A.out A.place A.faults door.old) (door_view A.coming A.served A.out A.place A.faults door.new) }
+    ensures { Attends (H.serves host.now) result.stop result.logs (A.view door.old) (A.view door.new) }
 {
     let Room { finished, logs } = room;
     let mut finished = finished;
@@ -53,8 +51,8 @@ pub fn attend<R: Threads + Wait + Sync, H: Host + Sync, A: Door>(
 // Gives links back to their door, the last one first, and keeps their logs. There is room for these.
 fn give_back<A: Door, G>(door: &mut A, finished: &mut Vec<Visit<A::L, A::S, G>>, logs: &mut Vec<G>)
     requires room { vec_len logs.old + vec_len finished.old ≤ vec_capacity logs.old }
-    ensures back { AreBack (map (λ v. sight (seen A.L.left A.L.written A.L.Source.faults A.L.Sink.faults v.link) (view_of A.S.ahead A.S.times A.S.sent A.S.faults v.side)) (reverse finished.old.items))
-        (door_view A.coming A.served A.out A.place A.faults door.old) (door_view A.coming A.served A.out A.place A.faults door.new) }
+    ensures back { AreBack (map (λ v. sight (seen A.L.left A.L.written A.L.Source.faults A.L.Sink.faults v.link) (A.S.view v.side)) (reverse finished.old.items))
+        (A.view door.old) (A.view door.new) }
     ensures logs { logs.new.items ≡ logs.old.items ++ flat_map (λ v. option_to_list v.log) (reverse finished.old.items) }
 {
     while let Some(visit) = finished.pop() {

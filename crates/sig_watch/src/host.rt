@@ -1,6 +1,5 @@
 ghost use Rattle.std.specs.Prelude.{ℕ};
 ghost use Rattle.sig_serving.specs.Line.{seen};
-ghost use Rattle.sig_serving.specs.Side.{view_of};
 ghost use Rattle.sig_watch.specs.Sights.{Sight, sight};
 
 use sig_links::{Link, Side};
@@ -24,6 +23,6 @@ pub trait Host {
         side: &mut S,
     ) -> Self::Log
         ensures { serves self.now number result
-            (sight (seen L.left L.written L.Source.faults L.Sink.faults link.old) (view_of S.ahead S.times S.sent S.faults side.old))
-            (sight (seen L.left L.written L.Source.faults L.Sink.faults link.new) (view_of S.ahead S.times S.sent S.faults side.new)) };
+            (sight (seen L.left L.written L.Source.faults L.Sink.faults link.old) (S.view side.old))
+            (sight (seen L.left L.written L.Source.faults L.Sink.faults link.new) (S.view side.new)) };
 }

@@ -1,6 +1,5 @@
 ghost use Rattle.std.specs.Prelude.{◌≡◌, Option};
 ghost use Rattle.sig_serving.specs.Line.{seen};
-ghost use Rattle.sig_serving.specs.Side.{view_of};
 ghost use Rattle.sig_watch.specs.Finished.{IsServed};
 ghost use Rattle.sig_watch.specs.Sights.{Sight, sight};
 
@@ -26,7 +25,7 @@ pub trait Visitor<H: Host, L: Link, S: Side> {
 
     /// A link that was just accepted.
     fn of(link: L, side: S) -> Self
-        ensures { seen_of result ≡ sight (seen L.left L.written L.Source.faults L.Sink.faults link) (view_of S.ahead S.times S.sent S.faults side) };
+        ensures { seen_of result ≡ sight (seen L.left L.written L.Source.faults L.Sink.faults link) (S.view side) };
 
     /// Has the host serve it under this number, and ends the link.
     fn serve<R: Wait>(&mut self, rt: &R, host: &H, number: u32)
@@ -35,10 +34,9 @@ pub trait Visitor<H: Host, L: Link, S: Side> {
 
 impl<H: Host, L: Link, S: Side> Visitor<H, L, S> for Visit<L, S, H::Log> {
     ghost use Rattle.sig_serving.specs.Line.{seen};
-    ghost use Rattle.sig_serving.specs.Side.{view_of};
     ghost use Rattle.sig_watch.specs.Sights.{sight};
 
-    ghost seen_of = { λ v. sight (seen L.left L.written L.Source.faults L.Sink.faults v.link) (view_of S.ahead S.times S.sent S.faults v.side) };
+    ghost seen_of = { λ v. sight (seen L.left L.written L.Source.faults L.Sink.faults v.link) (S.view v.side) };
 
     ghost log_of = { λ v. v.log };
 

@@ -39,17 +39,9 @@ impl<'a> Door for HeldDoor<'a> {
 
     ghost use Rattle.std.specs.Prelude.{None, [], false};
 
-    ghost place = { λ d. None };
-
-    ghost coming = { λ d. None };
-
-    ghost served = { λ d. None };
-
-    ghost out = { λ d. 0 };
+    ghost view = { λ d. record { coming = None; served = None; out = 0; place = None; faults = d.faults } };
 
     ghost plan = { λ l. record { bytes = []; fails = false } };
-
-    ghost faults = { λ d. d.faults };
 
     fn accept(&mut self) -> Result<Accepted<HeldLink<'a>, StillSide<'a>>, Failed> {
         match self.plans.pop() {

@@ -31,17 +31,11 @@ impl<'a> Side for StillSide<'a> {
 
     ghost use Rattle.std.specs.Prelude.{None, [], false};
 
-    ghost ahead = { λ s. None };
-
-    ghost times = { λ s. None };
-
-    ghost sent = { λ s. None };
+    ghost view = { λ s. record { ahead = None; times = None; sent = None; faults = s.faults } };
 
     ghost out = { λ s. 0 };
 
     ghost plan = { λ l. record { bytes = []; fails = false } };
-
-    ghost faults = { λ s. s.faults };
 
     fn dial(&mut self, _place: &Place) -> Result<HeldLink<'a>, Failed> {
         Err(self.faults.raise())

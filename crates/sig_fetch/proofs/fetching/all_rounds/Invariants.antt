@@ -6,9 +6,9 @@ use Rattle.sig_fetch.proofs.fetching.all_rounds.Given as goal
 
 abbrev pub invariant-loop-made : goal.invariant-loop-made
 invariant-loop-made g l = record {
-  goes_on : GoesOn l.peer l.rounds (l.rounds - l.made) l.made (drop l.from l.node.turns) (g.S.Side.ahead l.fn.side) (g.S.Side.ahead l.side) (g.S.Side.sent l.fn.side) (g.S.Side.sent l.side) l.fn.node l.node;
+  goes_on : GoesOn l.peer l.rounds (l.rounds - l.made) l.made (drop l.from l.node.turns) (g.S.Side.view l.fn.side).ahead (g.S.Side.view l.side).ahead (g.S.Side.view l.fn.side).sent (g.S.Side.view l.side).sent l.fn.node l.node;
   within : l.from ≤ length l.node.turns;
   halts : Halts {T = ⊤} g.D.Disk.told g.D.Disk.faults l.fn.node l.node (Ok tt);
-  times : g.S.Side.times l.side ≡ g.S.Side.times l.fn.side;
-  counts : g.S.Side.faults l.side ≡ g.S.Side.faults l.fn.side;
+  times : (g.S.Side.view l.side).times ≡ (g.S.Side.view l.fn.side).times;
+  counts : (g.S.Side.view l.side).faults ≡ (g.S.Side.view l.fn.side).faults;
 }

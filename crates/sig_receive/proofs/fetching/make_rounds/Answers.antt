@@ -1,11 +1,10 @@
-use Rattle.sig_serving.specs.Side.{view_of}
 use Rattle.sig_receive.proofs.FetchLemmas.{breaks_by, counts_network, makes_rounds}
 use Rattle.sig_receive.proofs.fetching.make_rounds.Goals as goal
 
 pub returns-clause-makes : goal.returns-clause-makes
 returns-clause-makes g c =
-    makes_rounds g.X.D.Disk.told g.X.D.Disk.faults c.args.peer.now c.args.rounds _ _ _ _ _ _ _ _ _ (view_of g.X.A.S.Side.ahead g.X.A.S.Side.times g.X.A.S.Side.sent g.X.A.S.Side.faults c.side-side.result)
-    (view_of g.X.A.S.Side.ahead g.X.A.S.Side.times g.X.A.S.Side.sent g.X.A.S.Side.faults c.fetch-fetched.new.side) c.args.node c.fetch-fetched.new.node c.fetch-fetched.result
+    makes_rounds g.X.D.Disk.told g.X.D.Disk.faults c.args.peer.now c.args.rounds _ _ _ _ _ _ _ _ _ (g.X.A.S.Side.view c.side-side.result)
+    (g.X.A.S.Side.view c.fetch-fetched.new.side) c.args.node c.fetch-fetched.new.node c.fetch-fetched.result
     c.side-side.ensures.next c.back_side.ensures.sides c.side-side.ensures.begins c.side-side.ensures.whole c.side-side.ensures.back c.side-side.ensures.lends c.back_side.ensures.back
     c.fetch-fetched.ensures.fetches (λ none. c.requires.reached (c.fetch-fetched.ensures.no_gateway.0 none)) c.fetch-fetched.ensures.tallies c.fetch-fetched.ensures.times c.fetch-fetched.ensures.halts
 

@@ -1,12 +1,11 @@
 use Rattle.std.proofs.Common.{◌≡◌, drop}
-use Rattle.sig_serving.specs.Side.{view_of}
 use Rattle.sig_round.proofs.GoingOn.{GoesOn}
 use Rattle.sig_round.proofs.delivering.deliver_all.Given as goal
 
 abbrev pub invariant-loop-token : goal.invariant-loop-token
 invariant-loop-token g l = record {
   goes_on : GoesOn l.rules (record { link = l.fn.log.link; now = l.fn.log.now }) l.tokens (drop l.token-index l.tokens)
-      (view_of g.S.Side.ahead g.S.Side.times g.S.Side.sent g.S.Side.faults l.fn.side) (view_of g.S.Side.ahead g.S.Side.times g.S.Side.sent g.S.Side.faults l.side)
+      (g.S.Side.view l.fn.side) (g.S.Side.view l.side)
       l.fn.log.turns.items l.log.turns.items (g.K.Taker.told l.fn.taker) (g.K.Taker.told l.taker);
   link : l.log.link ≡ l.fn.log.link;
   now : l.log.now ≡ l.fn.log.now;

@@ -1,5 +1,4 @@
 use Rattle.std.proofs.Common.{◌∙◌, None, Some, ap, refl, []}
-use Rattle.sig_serving.specs.Door.{door_view}
 use Rattle.sig_watch.proofs.DoorLemmas.{door_failed}
 use Rattle.sig_opening.specs.declared.ending.ServeEnd.TheVariants.{Done, StoreFailed, NetworkFailed, Disagree}
 use Rattle.sig_opening.proofs.WatchLemmas.{agree_none, agree_one, goes_on, if_none, if_shut, stops_before, stops_with}
@@ -42,4 +41,4 @@ pub returns-in-Memory-clause-stops : goal.returns-in-Memory-clause-stops
 returns-in-Memory-clause-stops g c =
     let same = c.in-Memory.ensures.memory in
     stops_before (IsWatch c.args.node.rules) tells_of _ _
-    (λ i. with_door g.D.Disk.told (same.0 i) (door_view g.A.Door.coming g.A.Door.served g.A.Door.out g.A.Door.place g.A.Door.faults (same.1 i)))
+    (λ i. with_door g.D.Disk.told (same.0 i) (g.A.Door.view (same.1 i)))

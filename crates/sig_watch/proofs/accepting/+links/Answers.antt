@@ -1,5 +1,4 @@
 use Rattle.std.proofs.Common.{◌∷◌}
-use Rattle.sig_serving.specs.Door.{door_view}
 use Rattle.sig_watch.proofs.AcceptLemmas.{gives, of_link}
 use Rattle.sig_watch.proofs.accepting.+links.Goals as goal
 
@@ -12,7 +11,7 @@ accept_from-returns-in-Ok-Link-clause-accepts g t c =
       g.V.Visitor.seen_of c.of.result ∷ beside.0,
       beside.1,
       (
-        door_view A.coming A.served A.out A.place A.faults c.accept.new.self,
+        A.view c.accept.new.self,
         gives _ _ _ _ _ _ c.of.ensures (of_link _ _ _ _ is came.next) (of_link _ _ _ _ is came.begins) (of_link _ _ _ _ is came.whole) (of_link _ _ _ _ is came.lends) came.others came.cause.stays,
         beside.2,
       ),
