@@ -4,7 +4,7 @@
 
 `bearer`, `body` and `query` may be left out, and `gateway`, true, says that there is one. The rules are those of RULES. The
 answer is `path`; `method` with the allowed ones or `bad` with the place, as a JSON string; `auth`; `poll` with an object of
-client and stream; or `call` with an object of the call's name and parts, whose members are in byte order. Each row names its
+client and stream, whose body is read but not told; or `call` with an object of the call's name and parts, whose members are in byte order. Each row names its
 answer by hand, from OpenID Shared Signals Framework 1.0, sections 7.1 and 8.1, and docs/FORMATS.md; `answer` computes it from
 the table of routes, and has to give the same. `lines` gives the cases with their answers.
 
@@ -14,6 +14,7 @@ import json
 import urllib.parse
 
 from cases import subjects
+from cases.delivery import check_ask
 from cases.streams import check_publication, check_want, want_object
 from cases.values import Fault, NotJson, dump, member, optional, read
 
@@ -131,6 +132,7 @@ def asked(name, case, client):
         return "call " + dump({"call": name})
     whose = {"client": client} if client else {}
     if name == "poll":
+        check_ask(case.get("body", "").encode())
         return "poll " + dump({**whose, "stream": case["path"][len("/poll/"):]})
     if name in ("read", "delete", "get_status"):
         name, parts = by_query(name, case.get("query", ""))
@@ -169,6 +171,8 @@ def answer(case):
         return asked(name, case, client)
     except Bad as place:
         return "bad " + dump(place.args[0])
+    except Fault as refused:
+        return refused.args[0]
 
 
 def case(method, path, bearer=None, body=None, query=None, **more):
@@ -251,7 +255,9 @@ ROWS = [
     ("without one", client("POST", "/ssf/verification", {"stream_id": "acme-1"}), 'call {"call":"verify","client":"acme","stream":"acme-1"}'),
     ("a state that is no text", client("POST", "/ssf/verification", {"stream_id": "acme-1", "state": None}), 'bad "state"'),
     ("no stream's name", client("POST", "/ssf/verification", {"state": 1}), 'bad "stream_id"'),
-    ("RFC 8936, section 2: a poll, whose body is read later", client("POST", "/poll/acme-1", "{"), 'poll {"client":"acme","stream":"acme-1"}'),
+    ("RFC 8936, section 2.4: a poll, whose body says what it asks", client("POST", "/poll/acme-1", "{}"), 'poll {"client":"acme","stream":"acme-1"}'),
+    ("one whose body spells no JSON", client("POST", "/poll/acme-1", "{"), 'bad "body"'),
+    ("one that asks for a number of tokens which is none", client("POST", "/poll/acme-1", '{"maxEvents":-1}'), 'bad "maxEvents"'),
     ("the rest of its path as it stands", client("POST", "/poll/a%2Fb/c+d"), 'poll {"client":"acme","stream":"a%2Fb/c+d"}'),
     ("an empty rest", client("POST", "/poll/"), 'poll {"client":"acme","stream":""}'),
     ("no rest", client("POST", "/poll"), "path"),

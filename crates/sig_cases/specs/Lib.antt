@@ -2,4 +2,3 @@ pub mod Told
 pub mod Records
 pub mod Bodies
 pub mod Routes
-pub mod Replies

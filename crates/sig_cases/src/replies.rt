@@ -1,16 +1,13 @@
 //! Lines on how a transmitter tells its answers: the response to each (OpenID Shared Signals Framework 1.0, section 8.1).
 
-ghost use Rattle.std.specs.Prelude.{IfOk, IfSome};
-ghost use Rattle.sig_cases.specs.Replies.{IsManaged};
-
 use crate::routes::rules;
 use crate::streams::conf_in;
 use sig_event::Status;
 use sig_http::Response;
 use sig_json::{Bytes, Items, Memory, Text, Value, list_of, present, text_of, value_named};
 use sig_lines::{said, spelled};
-use sig_manage::response_of;
 use sig_terms::{Answer, Issued, StreamConf};
+use sig_txroutes::response_of;
 use std::alloc::Global;
 
 const STORE_ID: [u8; 16] = [
@@ -30,17 +27,13 @@ pub fn reply(alloc: Global, rest: &[u8]) -> Result<Option<Bytes>, Memory> {
 }
 
 // The answer is dropped by itself, so that no other function has a part of its many kinds.
-fn replied(alloc: Global, answer: Answer) -> Result<Bytes, Memory>
-    requires { IsManaged answer }
-{
+fn replied(alloc: Global, answer: Answer) -> Result<Bytes, Memory> {
     let told = told(alloc, &answer);
     drop(answer);
     told
 }
 
-fn told(alloc: Global, answer: &Answer) -> Result<Bytes, Memory>
-    requires { IsManaged answer.now }
-{
+fn told(alloc: Global, answer: &Answer) -> Result<Bytes, Memory> {
     let rules = rules(alloc, true)?;
     let response = response_of(alloc, answer, &rules)?;
     written(alloc, &response)
@@ -55,9 +48,7 @@ fn written(alloc: Global, response: &Response) -> Result<Bytes, Memory> {
     said(alloc, status.as_str(), response.body.as_slice())
 }
 
-fn answer_in(alloc: Global, case: &Value) -> Result<Option<Answer>, Memory>
-    ensures { IfOk result (λ answer. IfSome answer IsManaged) }
-{
+fn answer_in(alloc: Global, case: &Value) -> Result<Option<Answer>, Memory> {
     match text_of(case, "answer") {
         Some("made") => made(alloc, case),
         Some("conf") => standing(alloc, case),
@@ -69,27 +60,21 @@ fn answer_in(alloc: Global, case: &Value) -> Result<Option<Answer>, Memory>
     }
 }
 
-fn made(alloc: Global, case: &Value) -> Result<Option<Answer>, Memory>
-    ensures { IfOk result (λ answer. IfSome answer IsManaged) }
-{
+fn made(alloc: Global, case: &Value) -> Result<Option<Answer>, Memory> {
     match conf_at(alloc, case)? {
         Some(conf) => Ok(Some(Answer::Made { conf })),
         None => Ok(None),
     }
 }
 
-fn standing(alloc: Global, case: &Value) -> Result<Option<Answer>, Memory>
-    ensures { IfOk result (λ answer. IfSome answer IsManaged) }
-{
+fn standing(alloc: Global, case: &Value) -> Result<Option<Answer>, Memory> {
     match conf_at(alloc, case)? {
         Some(conf) => Ok(Some(Answer::Conf { conf })),
         None => Ok(None),
     }
 }
 
-fn all_standing(alloc: Global, case: &Value) -> Result<Option<Answer>, Memory>
-    ensures { IfOk result (λ answer. IfSome answer IsManaged) }
-{
+fn all_standing(alloc: Global, case: &Value) -> Result<Option<Answer>, Memory> {
     match confs_at(alloc, case)? {
         Some(confs) => Ok(Some(Answer::Confs { confs })),
         None => Ok(None),
@@ -117,9 +102,7 @@ fn confs_at(alloc: Global, case: &Value) -> Result<Option<Items<StreamConf>>, Me
     Ok(Some(Items::of(confs)))
 }
 
-fn state(alloc: Global, case: &Value) -> Result<Option<Answer>, Memory>
-    ensures { IfOk result (λ answer. IfSome answer IsManaged) }
-{
+fn state(alloc: Global, case: &Value) -> Result<Option<Answer>, Memory> {
     let (Some(stream), Some(status)) = (text_of(case, "stream"), status_in(case)) else {
         return Ok(None);
     };
@@ -140,9 +123,7 @@ fn status_in(case: &Value) -> Option<Status> {
     value_named::<Status>(text_of(case, "status")?)
 }
 
-fn published(alloc: Global, case: &Value) -> Result<Option<Answer>, Memory>
-    ensures { IfOk result (λ answer. IfSome answer IsManaged) }
-{
+fn published(alloc: Global, case: &Value) -> Result<Option<Answer>, Memory> {
     match tokens_at(alloc, case)? {
         Some(tokens) => Ok(Some(Answer::Published {
             store_id: STORE_ID,
@@ -181,9 +162,7 @@ fn token_in(alloc: Global, item: &Value) -> Result<Option<Issued>, Memory> {
 }
 
 // The answers of whose parts a response tells nothing.
-fn named(alloc: Global, name: &str) -> Result<Option<Answer>, Memory>
-    ensures { IfOk result (λ answer. IfSome answer IsManaged) }
-{
+fn named(alloc: Global, name: &str) -> Result<Option<Answer>, Memory> {
     match name {
         "asked" => Ok(Some(asked(alloc)?)),
         "delivering" => Ok(Some(delivering(alloc)?)),
@@ -191,23 +170,17 @@ fn named(alloc: Global, name: &str) -> Result<Option<Answer>, Memory>
     }
 }
 
-fn asked(alloc: Global) -> Result<Answer, Memory>
-    ensures { IfOk result IsManaged }
-{
+fn asked(alloc: Global) -> Result<Answer, Memory> {
     let stream = Text::of(alloc, "acme-1")?;
     Ok(Answer::Asked { stream, number: 1 })
 }
 
-fn delivering(alloc: Global) -> Result<Answer, Memory>
-    ensures { IfOk result IsManaged }
-{
+fn delivering(alloc: Global) -> Result<Answer, Memory> {
     let stream = Text::of(alloc, "acme-1")?;
     Ok(Answer::Delivering { stream })
 }
 
-fn plain(name: &str) -> Option<Answer>
-    ensures { IfSome result IsManaged }
-{
+fn plain(name: &str) -> Option<Answer> {
     match name {
         "meta" => Some(Answer::Meta),
         "gone" => Some(Answer::Gone),

@@ -12,9 +12,9 @@ use sig_http::{HttpRefusal, Request};
 use sig_json::{Bytes, Items, Memory, Text, Value, text_of};
 use sig_jws::Key;
 use sig_lines::{bare, named, spelled, valued};
-use sig_manage::{Routed, call_of};
 use sig_outside::Place;
-use sig_terms::{Client, Defaults, Rules};
+use sig_terms::{Call, Client, Defaults, Rules};
+use sig_txroutes::call_of;
 use std::alloc::Global;
 
 /// What a request asks, or why it is refused; none where the rest is no object with a text `method` and a text `path`,
@@ -119,22 +119,22 @@ fn place(alloc: Global) -> Result<Place, Memory> {
 
 fn routed(alloc: Global, request: &Request, rules: &Rules) -> Result<Bytes, Memory> {
     match call_of(alloc, request, rules) {
-        Ok(routed) => told(alloc, routed),
+        Ok(call) => told(alloc, call),
         Err(refusal) => refused(alloc, &refusal),
     }
 }
 
-// What is asked is dropped by itself, so that no other function has a part of its many kinds.
-fn told(alloc: Global, routed: Routed) -> Result<Bytes, Memory> {
-    let answer = asked(alloc, &routed);
-    drop(routed);
+// The call is dropped by itself, so that no other function has a part of its many kinds.
+fn told(alloc: Global, call: Call) -> Result<Bytes, Memory> {
+    let answer = asked(alloc, &call);
+    drop(call);
     answer
 }
 
-fn asked(alloc: Global, routed: &Routed) -> Result<Bytes, Memory> {
-    match routed {
-        Routed::Call(call) => valued(alloc, "call", &call_value(alloc, call)?),
-        Routed::Poll { client, stream } => polled(alloc, client, stream),
+fn asked(alloc: Global, call: &Call) -> Result<Bytes, Memory> {
+    match call {
+        Call::Poll { client, stream, .. } => polled(alloc, client, stream),
+        _ => valued(alloc, "call", &call_value(alloc, call)?),
     }
 }
 

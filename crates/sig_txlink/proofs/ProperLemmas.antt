@@ -6,7 +6,7 @@ use Rattle.sig_json.specs.Answers.{Answers}
 use Rattle.sig_http.specs.declared.fault.HttpRefusal.{HttpRefusal}
 use Rattle.sig_http.specs.declared.fault.HttpRefusal.TheVariants as refusal
 use Rattle.sig_txlink.specs.Asking.{IsProperRouted, asked_of, call_by, call_in, is_long, too_long}
-use Rattle.sig_manage.specs.declared.routing.Routed.{Routed}
+use Rattle.sig_txroutes.specs.declared.routing.Routed.{Routed}
 use Rattle.sig_json.specs.declared.limits.TheConstants.{REQUEST_BODY_BYTES}
 use Rattle.sig_http.specs.declared.message.Request.{Request}
 use Rattle.sig_terms.specs.declared.call.Call.{Call}
@@ -15,10 +15,10 @@ use Rattle.sig_terms.specs.declared.rules.Rules.{Rules}
 use Rattle.sig_terms.specs.declared.want.Want.{Want}
 use Rattle.sig_calls.specs.Proper.{IsProperCall, IsProperWant}
 use Rattle.sig_bounds.proofs.WantSizes.{wants_proper}
-use Rattle.sig_manage.proofs.AskLemmas.{requests_make_proper_calls}
-use Rattle.sig_manage.specs.Calls.{routed_of}
-use Rattle.sig_manage.specs.Laws.{IsProperOf, IsWanted}
-use Rattle.sig_manage.specs.declared.routing.Routed.TheVariants as routed
+use Rattle.sig_txroutes.proofs.AskLemmas.{requests_make_proper_calls}
+use Rattle.sig_txroutes.specs.Calls.{routed_of}
+use Rattle.sig_txroutes.specs.Laws.{IsProperOf, IsWanted}
+use Rattle.sig_txroutes.specs.declared.routing.Routed.TheVariants as routed
 
 -- what a request of such a size wants
 proper_want : (request : Request) (rules : Rules) (want : Want) → length request.body ≤ REQUEST_BODY_BYTES → IsWanted request rules want → IsProperWant want

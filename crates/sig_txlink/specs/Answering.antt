@@ -11,7 +11,7 @@ use Rattle.sig_terms.specs.declared.token.Token.{Token}
 use Rattle.sig_journal.specs.declared.node_fault.NodeFault.{NodeFault}
 use Rattle.sig_journal.specs.declared.node_fault.NodeFault.TheVariants.{Store, Full, Memory}
 use Rattle.sig_delivery.specs.Sets.{sets_text}
-use Rattle.sig_manage.specs.Answers.{reply}
+use Rattle.sig_txroutes.specs.Answers.{reply}
 use Rattle.sig_txlink.specs.declared.course.Course.{Course}
 use Rattle.sig_txlink.specs.declared.course.Course.TheVariants.{Refused, Turned}
 

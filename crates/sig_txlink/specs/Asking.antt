@@ -12,9 +12,9 @@ use Rattle.sig_calls.specs.Proper.{IsProperCall}
 use Rattle.sig_delivery.specs.Asks.{ask_of}
 use Rattle.sig_delivery.specs.declared.fault.BodyFault.{BodyFault}
 use Rattle.sig_delivery.specs.declared.fault.BodyFault.TheVariants as fault
-use Rattle.sig_manage.specs.Calls.{routed_of}
-use Rattle.sig_manage.specs.declared.routing.Routed.{Routed}
-use Rattle.sig_manage.specs.declared.routing.Routed.TheVariants as routed
+use Rattle.sig_txroutes.specs.Calls.{routed_of}
+use Rattle.sig_txroutes.specs.declared.routing.Routed.{Routed}
+use Rattle.sig_txroutes.specs.declared.routing.Routed.TheVariants as routed
 
 -- the poll of a client's stream (RFC 8936, section 2.4); a body that says none is wrong where it is wrong
 abbrev pub poll_with : List ℕ → List ℕ → Result PollAsk BodyFault → Result Call HttpRefusal

@@ -7,7 +7,7 @@ use crate::course::Course;
 use sig_delivery::write_sets;
 use sig_http::{Header, Response, refusal_of};
 use sig_json::{Bytes, Items, Memory, Text};
-use sig_manage::response_of;
+use sig_txroutes::response_of;
 use sig_terms::{Answer, Rules, Token};
 use sig_txnode::TxFault;
 use std::alloc::Global;

@@ -9,7 +9,7 @@ use sig_delivery::{BodyFault, read_ask};
 use sig_http::{HttpRefusal, Request};
 use sig_json::limits::REQUEST_BODY_BYTES;
 use sig_json::{Bytes, Memory, Text};
-use sig_manage::{Routed, call_of};
+use sig_txroutes::{Routed, call_of};
 use sig_terms::{Call, Rules};
 use std::alloc::Global;
 

@@ -2,7 +2,7 @@
 //! that follow (RFC 9112, section 9.3; OpenID Shared Signals Framework 1.0, sections 7.1 and 8.1; RFC 8936, section 2; RFC
 //! 8935, section 2).
 //!
-//! It stands on `sig_http` for messages, on `sig_manage` and `sig_delivery` for what a request asks and how an answer is
+//! It stands on `sig_http` for messages, on `sig_txroutes` and `sig_delivery` for what a request asks and how an answer is
 //! told, on `sig_serving` for what is written whatever is asked, on `sig_txnode` for the taker of turns, on `sig_round` for push rounds, and on `sig_links` for the link and what its
 //! requests may ask of the outside.
 //!

@@ -1,5 +1,0 @@
-use Rattle.sig_manage.proofs.AskLemmas.{bearers_decide}
-use Rattle.sig_manage.proofs.laws.bearers_decide.Goals as goal
-
-pub returns : goal.returns
-returns c = bearers_decide

@@ -1,5 +1,0 @@
-use Rattle.sig_manage.proofs.AskLemmas.{clients_ask_for_themselves}
-use Rattle.sig_manage.proofs.laws.clients_ask_for_themselves.Goals as goal
-
-pub returns : goal.returns
-returns c = clients_ask_for_themselves

@@ -1,5 +1,0 @@
-use Rattle.sig_manage.proofs.ReplyLemmas.{no_content_is_empty}
-use Rattle.sig_manage.proofs.laws.no_content_is_empty.Goals as goal
-
-pub returns : goal.returns
-returns c = no_content_is_empty

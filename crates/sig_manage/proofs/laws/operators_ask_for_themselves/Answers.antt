@@ -1,5 +1,0 @@
-use Rattle.sig_manage.proofs.AskLemmas.{operators_ask_for_themselves}
-use Rattle.sig_manage.proofs.laws.operators_ask_for_themselves.Goals as goal
-
-pub returns : goal.returns
-returns c = operators_ask_for_themselves

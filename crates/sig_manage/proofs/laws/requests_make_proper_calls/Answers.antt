@@ -1,5 +1,0 @@
-use Rattle.sig_manage.proofs.AskLemmas.{requests_make_proper_calls}
-use Rattle.sig_manage.proofs.laws.requests_make_proper_calls.Goals as goal
-
-pub returns : goal.returns
-returns c = requests_make_proper_calls

@@ -1,8 +1,0 @@
-//! What a request asks moves between threads and may be shared by them, which the check of this call shows.
-
-use crate::Routed;
-use sig_json::crosses_threads;
-
-fn types_cross() {
-    crosses_threads::<Routed>();
-}

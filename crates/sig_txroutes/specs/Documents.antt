@@ -1,0 +1,81 @@
+-- What the transmitter tells in JSON (OpenID Shared Signals Framework 1.0, sections 7.1 and 8.1).
+use Rattle.std.specs.Prelude.{ℕ, List, [], ◌∷◌, ◌++◌, map, Option, option_map, codes, decimal}
+use Rattle.serde_json.specs.Data.{Data, string, array, object, Members, no_members, member, put}
+use Rattle.serde_json.specs.View.{items_of}
+use Rattle.uuid.specs.Text.{hyphenated_text, lower}
+use Rattle.sig_event.specs.Status.{status_text}
+use Rattle.sig_event.specs.declared.status.Status.{Status}
+use Rattle.sig_terms.specs.declared.configuration.StreamConf.{StreamConf}
+use Rattle.sig_terms.specs.declared.rules.Rules.{Rules}
+use Rattle.sig_terms.specs.declared.token.Issued.{Issued}
+use Rattle.sig_terms.specs.declared.want.Defaults.{Defaults}
+use Rattle.sig_terms.specs.declared.want.Defaults.TheVariants as defaults
+use Rattle.sig_stream.specs.Configurations.{conf_data, put_given, texts_data}
+use Rattle.sig_stream.specs.Wants.{poll_method, push_method}
+use Rattle.sig_txroutes.specs.Routes.{row_of}
+use Rattle.sig_txroutes.specs.declared.route.Route.{Route}
+use Rattle.sig_txroutes.specs.declared.route.Route.TheVariants as route
+use Rattle.sig_txroutes.specs.declared.route.BodyCall.TheVariants as body
+
+-- ---- the metadata (section 7.1)
+
+-- which subjects a new stream has
+abbrev pub defaults_text : Defaults → List ℕ
+defaults_text defaults.All = codes "ALL"
+defaults_text defaults.None = codes "NONE"
+
+-- the address of a route
+abbrev pub endpoint : List ℕ → Route → Data
+endpoint base r = string (base ++ (row_of r).path)
+
+-- the members that name addresses
+abbrev pub addresses : List ℕ → Members
+addresses base =
+    member (codes "add_subject_endpoint") (endpoint base (route.Body body.Add))
+    (member (codes "configuration_endpoint") (endpoint base (route.Body body.Create))
+    (member (codes "remove_subject_endpoint") (endpoint base (route.Body body.Remove))
+    (member (codes "status_endpoint") (endpoint base (route.Body body.SetStatus))
+    (member (codes "verification_endpoint") (endpoint base (route.Body body.Verify)) no_members))))
+
+-- push and poll (RFC 8935, RFC 8936)
+abbrev pub methods_data : Data
+methods_data = texts_data (push_method ∷ poll_method ∷ [])
+
+-- what the transmitter offers
+abbrev pub metadata : Rules → Data
+metadata rules = object
+    (put (codes "spec_version") (string (codes "1_0"))
+    (put (codes "issuer") (string rules.issuer)
+    (put (codes "delivery_methods_supported") methods_data
+    (put (codes "default_subjects") (string (defaults_text rules.defaults)) (addresses rules.base)))))
+
+-- ---- streams (section 8.1.1 and 8.1.2)
+
+-- the configurations of all streams of a client
+abbrev pub confs_data : List StreamConf → List ℕ → Data
+confs_data confs base = array (items_of (map (λ conf. conf_data conf base) confs))
+
+-- the status of a stream, with the reason that stands
+abbrev pub status_data : List ℕ → Status → Option (List ℕ) → Data
+status_data stream status reason = object
+    (put_given (codes "reason") (option_map (λ t. string t) reason)
+    (member (codes "status") (string (status_text status))
+    (member (codes "stream_id") (string stream) no_members)))
+
+-- ---- publications
+
+-- the identifier of a token: the store's, the stream's name and its number, with dots between
+abbrev pub token_id : List ℕ → Issued → List ℕ
+token_id store_id token = hyphenated_text lower store_id ++ codes "." ++ token.stream ++ codes "." ++ decimal token.number
+
+abbrev pub token_data : List ℕ → Issued → Data
+token_data store_id token = object
+    (member (codes "jti") (string (token_id store_id token))
+    (member (codes "stream_id") (string token.stream) no_members))
+
+abbrev pub tokens_data : List ℕ → List Issued → Data
+tokens_data store_id tokens = array (items_of (map (token_data store_id) tokens))
+
+-- the tokens that a publication made
+abbrev pub published_data : List ℕ → List Issued → Data
+published_data store_id tokens = object (member (codes "tokens") (tokens_data store_id tokens) no_members)

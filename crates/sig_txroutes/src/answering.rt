@@ -1,0 +1,149 @@
+//! From an answer to its response.
+
+ghost use Rattle.std.specs.Prelude.{◌≡◌, IfOk, false};
+ghost use Rattle.serde_json.specs.View.{view};
+ghost use Rattle.serde_json.specs.Written.{has_float};
+ghost use Rattle.sig_txroutes.specs.Answers as spec;
+ghost use Rattle.sig_txroutes.specs.Documents as documents;
+
+use crate::document::{confs_value, metadata, published_value, status_value};
+use sig_delivery::{Token, write_sets};
+use sig_event::Status;
+use sig_http::{Header, HttpRefusal, Response, refusal_of};
+use sig_json::{Bytes, Items, Memory, Text, Value, canon};
+use sig_stream::conf_json;
+use sig_terms::{Answer, Issued, Rules, StreamConf};
+use std::alloc::Global;
+
+/// The response to an answer, which has one status: 200 for what was read, changed, published or added, 201 for a new
+/// stream, 202 for a round of pushes that may begin, 204 where nothing is told, 404 where there is no such stream, 409
+/// where it can't be so, 429 where it is too early, and 400 at `long` where a token would be too long. It leaves the link
+/// open. A page of tokens is 200, signed by the key of the rules. What a round of pushes is handed or settles is told to no
+/// request, and would be 500. Out of memory is the only error.
+pub fn response_of(alloc: Global, answer: &Answer, rules: &Rules) -> Result<Response, Memory>
+    ensures { IfOk result (λ response. response ≡ spec.reply answer.now rules.now) }
+{
+    match answer {
+        Answer::Meta => offered(alloc, rules),
+        Answer::Made { conf } => configured(alloc, 201, conf, rules),
+        Answer::Conf { conf } => configured(alloc, 200, conf, rules),
+        Answer::Confs { confs } => all_configured(alloc, confs.as_slice(), rules),
+        Answer::State {
+            stream,
+            status,
+            reason,
+            ..
+        } => standing(alloc, stream, *status, reason),
+        Answer::Published { store_id, tokens } => published(alloc, *store_id, tokens.as_slice()),
+        Answer::Added => Ok(empty(alloc, 200)),
+        Answer::Delivering { .. } => Ok(empty(alloc, 202)),
+        Answer::Gone | Answer::Removed | Answer::Asked { .. } => Ok(empty(alloc, 204)),
+        Answer::NotFound => Ok(empty(alloc, 404)),
+        Answer::TooMany | Answer::Conflict | Answer::Disabled => Ok(empty(alloc, 409)),
+        Answer::Early { .. } => Ok(empty(alloc, 429)),
+        Answer::Long { .. } => refusal_of(alloc, &HttpRefusal::Bad(Text::of(alloc, "long")?)),
+        Answer::Sets { tokens, more } => page(alloc, tokens, *more, rules),
+        Answer::Handed { .. } | Answer::Settled { .. } => Ok(empty(alloc, 500)),
+    }
+}
+
+// What the transmitter offers.
+#[tactic(auto, using(crate::proofs::WholeDocuments::metadata_whole))]
+fn offered(alloc: Global, rules: &Rules) -> Result<Response, Memory>
+    ensures { IfOk result (λ response. response ≡ spec.telling 200 (documents.metadata rules.now)) }
+{
+    let value = metadata(alloc, rules)?;
+    telling(alloc, 200, &value)
+}
+
+// The configuration of a stream.
+#[tactic(auto, using(crate::proofs::WholeDocuments::conf_whole))]
+fn configured(
+    alloc: Global,
+    status: u16,
+    conf: &StreamConf,
+    rules: &Rules,
+) -> Result<Response, Memory>
+    ensures { IfOk result (λ response. response ≡ spec.configured status conf.now rules.now) }
+{
+    let value = conf_json(alloc, conf, &rules.base)?;
+    telling(alloc, status, &value)
+}
+
+// The configurations of all streams of a client.
+#[tactic(auto, using(crate::proofs::WholeDocuments::confs_whole))]
+fn all_configured(alloc: Global, confs: &[StreamConf], rules: &Rules) -> Result<Response, Memory>
+    ensures { IfOk result (λ response. response ≡ spec.telling 200 (documents.confs_data confs.now rules.now.base)) }
+{
+    let value = confs_value(alloc, confs, &rules.base)?;
+    telling(alloc, 200, &value)
+}
+
+// The status of a stream.
+#[tactic(auto, using(crate::proofs::WholeDocuments::status_whole))]
+fn standing(
+    alloc: Global,
+    stream: &Text,
+    status: Status,
+    reason: &Option<Text>,
+) -> Result<Response, Memory>
+    ensures { IfOk result (λ response. response ≡ spec.telling 200 (documents.status_data stream.now status reason.now)) }
+{
+    let value = status_value(alloc, stream, status, reason)?;
+    telling(alloc, 200, &value)
+}
+
+// The tokens of a publication.
+#[tactic(auto, using(crate::proofs::WholeDocuments::published_whole))]
+fn published(alloc: Global, store_id: [u8; 16], tokens: &[Issued]) -> Result<Response, Memory>
+    ensures { IfOk result (λ response. response ≡ spec.telling 200 (documents.published_data store_id tokens.now)) }
+{
+    let value = published_value(alloc, store_id, tokens)?;
+    telling(alloc, 200, &value)
+}
+
+// The response that tells a value in which no fraction stands.
+fn telling(alloc: Global, status: u16, value: &Value) -> Result<Response, Memory>
+    requires { has_float (view value.now) ≡ false }
+    ensures { IfOk result (λ response. response ≡ spec.telling status (view value.now)) }
+{
+    let text = canon(alloc, value)?;
+    let body = Bytes::of(alloc, text.as_str().as_bytes())?;
+    json(alloc, status, body)
+}
+
+// A page of tokens, signed (RFC 8936, section 2.5).
+fn page(alloc: Global, tokens: &Items<Token>, more: bool, rules: &Rules) -> Result<Response, Memory>
+    ensures { IfOk result (λ response. response ≡ spec.page tokens.now more rules.now) }
+{
+    let body = write_sets(alloc, tokens, more, &rules.key)?;
+    json(alloc, 200, body)
+}
+
+// The response with this body in JSON (RFC 8259, section 11).
+fn json(alloc: Global, status: u16, body: Bytes) -> Result<Response, Memory>
+    ensures { IfOk result (λ response. response ≡ spec.json status body) }
+{
+    let mut headers = Vec::new(alloc);
+    headers.push(Header {
+        name: Text::of(alloc, "content-type")?,
+        value: Text::of(alloc, "application/json")?,
+    })?;
+    Ok(Response {
+        status,
+        headers: Items::of(headers),
+        close: false,
+        body,
+    })
+}
+
+fn empty(alloc: Global, status: u16) -> Response
+    ensures { result ≡ spec.empty status }
+{
+    Response {
+        status,
+        headers: Items::of(Vec::new(alloc)),
+        close: false,
+        body: Bytes::new(alloc),
+    }
+}

@@ -1,0 +1,37 @@
+//! The calls of the operator.
+
+ghost use Rattle.std.specs.Prelude.{◌≡◌};
+ghost use Rattle.serde_json.specs.View.{view};
+ghost use Rattle.sig_json.specs.Answers.{Answers};
+ghost use Rattle.sig_txroutes.specs.Calls as spec;
+
+use crate::body::{publication_in, status_said, stream_in};
+use crate::route::OperatorCall;
+use sig_http::HttpRefusal;
+use sig_json::Value;
+use sig_terms::Call;
+use std::alloc::Global;
+
+/// The call of the operator that a body says. `Bad` names the first member that is missing or wrong.
+pub fn operator_call(alloc: Global, route: OperatorCall, body: &Value) -> Result<Call, HttpRefusal>
+    ensures { Answers HttpRefusal.Memory result (spec.operator_call route (view body.now)) }
+{
+    match route {
+        OperatorCall::Publish => publication_in(alloc, body),
+        OperatorCall::SetStatus => status_call(alloc, body),
+        OperatorCall::Deliver => Ok(Call::Deliver {
+            stream: stream_in(alloc, body)?,
+        }),
+    }
+}
+
+fn status_call(alloc: Global, body: &Value) -> Result<Call, HttpRefusal>
+    ensures { Answers HttpRefusal.Memory result (spec.operator_status_call (view body.now)) }
+{
+    let said = status_said(alloc, body)?;
+    Ok(Call::OperatorStatus {
+        stream: said.stream,
+        status: said.status,
+        reason: said.reason,
+    })
+}
