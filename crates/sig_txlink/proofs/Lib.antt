@@ -3,5 +3,4 @@ pub mod ChainLemmas
 pub mod EndLemmas
 pub mod FollowLemmas
 pub mod PassLemmas
-pub mod ProperLemmas
 pub mod TurnLemmas

@@ -1,16 +1,13 @@
 -- How what came of a request is told (RFC 9110, section 15): a refusal of the routes, the answer of its turn, or why the turn
 -- has none.
-use Rattle.std.specs.Prelude.{ℕ, Bool, false, List, [], ◌∷◌, Option, Some, None, unwrap_or, Result, Ok, Err, codes}
+use Rattle.std.specs.Prelude.{ℕ, Bool, false, List, [], unwrap_or, Result, Ok, Err}
 use Rattle.sig_http.specs.Answering.{closing as closing_with, refused_with}
 use Rattle.sig_http.specs.Spelling.{response_spelling}
 use Rattle.sig_http.specs.declared.message.Response.{Response}
 use Rattle.sig_terms.specs.declared.answer.Answer.{Answer}
-use Rattle.sig_terms.specs.declared.answer.Answer.TheVariants as answer
 use Rattle.sig_terms.specs.declared.rules.Rules.{Rules}
-use Rattle.sig_terms.specs.declared.token.Token.{Token}
 use Rattle.sig_journal.specs.declared.node_fault.NodeFault.{NodeFault}
 use Rattle.sig_journal.specs.declared.node_fault.NodeFault.TheVariants.{Store, Full, Memory}
-use Rattle.sig_delivery.specs.Sets.{sets_text}
 use Rattle.sig_txroutes.specs.Answers.{reply}
 use Rattle.sig_txlink.specs.declared.course.Course.{Course}
 use Rattle.sig_txlink.specs.declared.course.Course.TheVariants.{Refused, Turned}
@@ -23,25 +20,9 @@ empty status = record { status = status; headers = []; close = false; body = [] 
 abbrev pub starved : Response
 starved = closing_with 507
 
--- a page of tokens, signed (RFC 8936, section 2.5)
-abbrev pub page : Rules → List Token → Bool → Response
-page rules tokens more = record {
-  status = 200;
-  headers = (record { name = codes "content-type"; value = codes "application/json" }) ∷ [];
-  close = false;
-  body = sets_text tokens more rules.key;
-}
-
--- an answer. What a push round is handed or settles is told to no request
-abbrev pub answered : Rules → Answer → Response
-answered rules (answer.Sets tokens more) = page rules tokens more
-answered rules (answer.Handed tokens) = empty 500
-answered rules (answer.Settled count) = empty 500
-answered rules a = unwrap_or (reply a rules) (empty 500)
-
 -- the result of a turn: 503 where the store failed, and 500 where a number would pass its limit
 abbrev pub response_in : Rules → Result Answer NodeFault → Response
-response_in rules (Ok a) = answered rules a
+response_in rules (Ok a) = reply a rules
 response_in rules (Err Store) = empty 503
 response_in rules (Err (Full n)) = empty 500
 response_in rules (Err Memory) = starved

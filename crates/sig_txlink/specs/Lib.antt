@@ -1,5 +1,4 @@
 pub mod Answering
-pub mod Asking
 pub mod Exchange
 pub mod Following
 pub mod Moment

@@ -4,12 +4,11 @@ ghost use Rattle.std.specs.Prelude.{◌≡◌, IfOk};
 ghost use Rattle.sig_txlink.specs.Answering as spec;
 
 use crate::course::Course;
-use sig_delivery::write_sets;
-use sig_http::{Header, Response, refusal_of};
-use sig_json::{Bytes, Items, Memory, Text};
-use sig_txroutes::response_of;
-use sig_terms::{Answer, Rules, Token};
+use sig_http::{Response, refusal_of};
+use sig_json::{Bytes, Items, Memory};
+use sig_terms::{Answer, Rules};
 use sig_txnode::TxFault;
+use sig_txroutes::response_of;
 use std::alloc::Global;
 
 // The response to what came of a request, which says whether the link closes after it.
@@ -38,40 +37,11 @@ fn response_in(
     ensures { IfOk result (λ response. response ≡ spec.response_in rules.now given.now) }
 {
     match given {
-        Ok(answer) => answered(alloc, rules, answer),
+        Ok(answer) => response_of(alloc, answer, rules),
         Err(TxFault::Store) => Ok(empty(alloc, 503)),
         Err(TxFault::Full(_)) => Ok(empty(alloc, 500)),
         Err(TxFault::Memory) => Err(Memory),
     }
-}
-
-// The response to an answer. No request is told what a push round is handed or settles.
-fn answered(alloc: Global, rules: &Rules, answer: &Answer) -> Result<Response, Memory>
-    ensures { IfOk result (λ response. response ≡ spec.answered rules.now answer.now) }
-{
-    match answer {
-        Answer::Sets { tokens, more } => page(alloc, rules, tokens, *more),
-        Answer::Handed { .. } | Answer::Settled { .. } => Ok(empty(alloc, 500)),
-        _ => response_of(alloc, answer, rules),
-    }
-}
-
-// The response to a poll (RFC 8936, section 2.5).
-fn page(alloc: Global, rules: &Rules, tokens: &Items<Token>, more: bool) -> Result<Response, Memory>
-    ensures { IfOk result (λ response. response ≡ spec.page rules.now tokens.now more) }
-{
-    let body = write_sets(alloc, tokens, more, &rules.key)?;
-    let mut headers = Vec::new(alloc);
-    headers.push(Header {
-        name: Text::of(alloc, "content-type")?,
-        value: Text::of(alloc, "application/json")?,
-    })?;
-    Ok(Response {
-        status: 200,
-        headers: Items::of(headers),
-        close: false,
-        body,
-    })
 }
 
 fn empty(alloc: Global, status: u16) -> Response

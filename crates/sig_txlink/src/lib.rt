@@ -2,13 +2,14 @@
 //! that follow (RFC 9112, section 9.3; OpenID Shared Signals Framework 1.0, sections 7.1 and 8.1; RFC 8936, section 2; RFC
 //! 8935, section 2).
 //!
-//! It stands on `sig_http` for messages, on `sig_txroutes` and `sig_delivery` for what a request asks and how an answer is
-//! told, on `sig_serving` for what is written whatever is asked, on `sig_txnode` for the taker of turns, on `sig_round` for push rounds, and on `sig_links` for the link and what its
+//! It stands on `sig_http` for messages, on `sig_txroutes` for what a request asks and how an answer is told, on
+//! `sig_serving` for what is written whatever is asked, on `sig_txnode` for the taker of turns, on `sig_round` for push rounds,
+//! and on `sig_links` for the link and what its
 //! requests may ask of the outside.
 //!
 //! ```text
 //!     link -> request -> call or refusal -> turn -> response -> link, and then a push round of the streams that are named
-//!            (`sig_http`)     (`asking`)   (`turning`) (`answering`)  (`sending`)     (`following`)
+//!            (`sig_http`)  (`sig_txroutes`) (`turning`) (`answering`)  (`sending`)     (`following`)
 //! ```
 //!
 //! Promised: the requests are those that the link's bytes decide, one after the other; each call makes one turn of the
@@ -19,7 +20,6 @@
 #![tactic(auto)]
 
 mod answering;
-mod asking;
 mod course;
 mod following;
 mod log;

@@ -7,7 +7,6 @@ ghost use Rattle.sig_txlink.specs.Moment.{TellsTime, TellsTimeAtMost};
 ghost use Rattle.sig_txlink.specs.Turning.{Comes, own_turn};
 ghost use Rattle.sig_txlink.specs.Work.{SameBeside, asker};
 
-use crate::asking::ask;
 use crate::course::Course;
 use crate::work::Work;
 use sig_http::{HttpRefusal, Request};
@@ -16,6 +15,7 @@ use sig_links::Side;
 use sig_round::TurnLog;
 use sig_terms::{Call, Rules};
 use sig_txnode::{Taker, Turn};
+use sig_txroutes::call_of;
 use std::sync::Wait;
 
 // What comes of a request: the routes refuse it, or it makes a turn. The log has room for one.
@@ -36,7 +36,7 @@ pub fn course_of<R: Wait, K: Taker, S: Side>(
     ensures beside { SameBeside work.old work.new }
 {
     work.log.make_room()?;
-    match ask(work.alloc, request, rules) {
+    match call_of(work.alloc, request, rules) {
         Ok(call) => match turn_of(rt, taker, side, &mut work.log, call) {
             Ok(turn) => Ok(Course::Turned(turn)),
             Err(Memory) => Err(Memory),
