@@ -3,16 +3,17 @@ ghost use Rattle.sig_outside.specs.Causes.{HasCause};
 ghost use Rattle.sig_system.specs.Adapters.{pair_of, untold, unused};
 
 use crate::TcpLink;
+use crate::deadline::{EXCHANGE_SECONDS, within};
 use sig_links::{FaultCount, Side};
 use sig_outside::{Failed, Place};
 use std::alloc::Global;
 use std::marker::Model;
 use std::net::{Net, TcpStream, ToSocketAddrs};
 use std::rt::Clock;
-use std::time::{Duration, SystemTime, UNIX_EPOCH};
+use std::time::{Duration, Instant, SystemTime, UNIX_EPOCH};
 
-/// How many seconds a dial waits for an answer from each address of a host.
-pub const DIAL_SECONDS: u64 = 30;
+/// How many seconds a dial waits for an answer from the addresses of a host, all together.
+pub const DIAL_SECONDS: u64 = 5;
 
 /// How many addresses of a host a dial tries at most.
 pub const DIAL_ADDRESSES: usize = 4;
@@ -56,8 +57,8 @@ impl<R> TcpSide<R> {
     }
 }
 
-impl<R: Net<Stream = TcpStream> + Clock> Side for TcpSide<R> {
-    type L = TcpLink;
+impl<R: Net<Stream = TcpStream> + Clock + Copy> Side for TcpSide<R> {
+    type L = TcpLink<R>;
 
     ghost view = { λ s. record { ahead = None; times = None; sent = None; faults = s } };
 
@@ -65,11 +66,11 @@ impl<R: Net<Stream = TcpStream> + Clock> Side for TcpSide<R> {
 
     ghost plan = { λ l. untold };
 
-    fn dial(&mut self, place: &Place) -> Result<TcpLink, Failed>
+    fn dial(&mut self, place: &Place) -> Result<TcpLink<R>, Failed>
         ensures link { IfOk result (λ link. link ≡ unused (Some (pair_of place.now))) }
         ensures cause { HasCause self.old self.new result }
     {
-        match connect(self.alloc, &self.rt, place) {
+        match connect(self.alloc, self.rt, place) {
             Some(link) => Ok(link),
             None => Err(self.faults.raise()),
         }
@@ -83,22 +84,28 @@ impl<R: Net<Stream = TcpStream> + Clock> Side for TcpSide<R> {
         self.time
     }
 
-    fn back(&mut self, link: TcpLink) {
+    fn back(&mut self, link: TcpLink<R>) {
         self.faults.gather(link.read_faults());
         self.faults.gather(link.write_faults());
     }
 }
 
-// A link to the first address of this place that answers.
-fn connect<R: Net<Stream = TcpStream>>(alloc: Global, rt: &R, place: &Place) -> Option<TcpLink>
+// A link to the first address of this place that answers in time.
+fn connect<R: Net<Stream = TcpStream> + Clock + Copy>(
+    alloc: Global,
+    rt: R,
+    place: &Place,
+) -> Option<TcpLink<R>>
     ensures { IfSome result (λ link. link ≡ unused (Some (pair_of place.now))) }
 {
     let kept = place.copy(alloc).ok()?;
-    let addresses = (place.host.as_str(), place.port).to_socket_addrs(rt).ok()?;
-    let limit = Duration::from_secs(DIAL_SECONDS);
+    let addresses = (place.host.as_str(), place.port).to_socket_addrs(&rt).ok()?;
+    let since = Instant::now(&rt).ok()?;
     for address in addresses.take(DIAL_ADDRESSES) {
-        if let Ok(stream) = TcpStream::connect_timeout(rt, &address, limit) {
-            return TcpLink::over(stream, Some(kept)).ok();
+        let now = since.elapsed(&rt).ok()?.as_secs();
+        let wait = Duration::from_secs(within(DIAL_SECONDS, DIAL_SECONDS, now)?);
+        if let Ok(stream) = TcpStream::connect_timeout(&rt, &address, wait) {
+            return TcpLink::over(stream, Some(kept), rt, EXCHANGE_SECONDS).ok();
         }
     }
     None
