@@ -1,0 +1,155 @@
+#!/usr/bin/env -S python3 -B
+"""The documents agree with the repository: its crates, files, names and examples."""
+import os
+import re
+import sys
+
+sys.dont_write_bytecode = True
+sys.path.insert(0, os.path.join(os.path.dirname(os.path.abspath(__file__)), ".."))
+from crates.crate_list import TOP, crates, kit
+
+DOCUMENTS = [
+    "README.md",
+    "CONTRIBUTING.md",
+    "docs/ARCHITECTURE.md",
+    "docs/DECISIONS.md",
+    "docs/FORMATS.md",
+    "docs/PROMISES.md",
+    "docs/WRONG_BODIES.md",
+    "examples/README.md",
+    "bench/README.md",
+    "tools/README.md",
+]
+# Words that a reader would stumble over, or that tell how something came to be.
+UNWANTED = re.compile(r"\b[Ww]ants? of memory\b|\b[Ff]ronts? of\b|\b[Bb]ehind\b|\b[Oo]ur own\b|\bNeither\b")
+
+faults = []
+
+
+def tell(document, fault):
+    faults.append(f"{document}: {fault}")
+
+
+def text_of(path):
+    with open(os.path.join(TOP, path), encoding="utf-8") as file:
+        return file.read()
+
+
+def anchor(heading):
+    """The anchor that a heading gets: lower case, without punctuation, with hyphens for spaces."""
+    return re.sub(r"[^\w\- ]", "", heading.lower()).replace(" ", "-")
+
+
+def headings(text):
+    return re.findall(r"^#+ (.*)$", re.sub(r"^```.*?^```", "", text, flags=re.M | re.S), re.M)
+
+
+def check_links(document, text):
+    for name, place in re.findall(r"\]\(([^)#]*)#?([^)]*)\)", text):
+        path = os.path.normpath(os.path.join(os.path.dirname(document), name)) if name else document
+        if not os.path.exists(os.path.join(TOP, path)):
+            tell(document, f"no file {name}")
+        elif place and place not in map(anchor, headings(text_of(path))):
+            tell(document, f"no heading #{place} in {path}")
+
+
+def check_words(document, text):
+    for number, line in enumerate(text.splitlines(), 1):
+        for found in UNWANTED.findall(line):
+            tell(document, f"line {number}: '{found}'")
+        for name in re.findall(r"\bsig_\w+", line):
+            if name not in crates():
+                tell(document, f"line {number}: no crate {name}")
+        for path in re.findall(r"`((?:docs|tools|examples|bench|crates)/[\w./]+)`", line):
+            if not os.path.exists(os.path.join(TOP, path)):
+                tell(document, f"line {number}: no file {path}")
+
+
+def check_readme(text):
+    lines = text.splitlines()
+    if len(lines) > 200:
+        tell("README.md", f"{len(lines)} lines")
+    shown = [line[4:] for line in lines[:25] if line.startswith("    ")]
+    given = [line[2:] for line in shown if line.startswith("> ")]
+    printed = [line for line in shown if not line.startswith("> ")]
+    if given != text_of("examples/first.txt").splitlines() or printed != text_of("examples/first.out.txt").splitlines():
+        tell("README.md", "its first example isn't examples/first.txt with examples/first.out.txt")
+    shown = re.search(r"^```rust\n(.*?)^```", text, re.M | re.S).group(1)
+    if without_space(shown) not in without_space(without_contracts(text_of("crates/sig_guard/src/guard.rt"))):
+        tell("README.md", "its code isn't that of crates/sig_guard/src/guard.rt")
+    for name in kit():
+        if f"`{name}`" not in text:
+            tell("README.md", f"it doesn't say that {name} is trusted")
+
+
+def without_contracts(source):
+    return "\n".join(line for line in source.splitlines() if not re.match(r"\s*(ensures|///)", line))
+
+
+def without_space(text):
+    return re.sub(r"\s+", "", text)
+
+
+def check_help(text):
+    """The script's help has the commands that the program knows, and the three words of the script."""
+    told = re.findall(r"^\./signals (\S+)", text, re.M)
+    paths = [f"crates/{crate}/src/{file}.rt" for crate in crates() for file in ("command", "asking")]
+    sources = [text_of(path) for path in paths if os.path.exists(os.path.join(TOP, path))]
+    known = re.findall(r'\bname(?:\.as_str\(\))? [!=]= "(\w+)"|"(\w+)" => Some\(Server::', "".join(sources))
+    known = [one or other for one, other in known]
+    if sorted(told) != sorted(known + ["--unproved", "help", "test"]):
+        tell("signals", f"its help has {told}, and the program knows {known}")
+
+
+def sources_of(crate):
+    """The words of a crate's sources and definitions, and the names of its files."""
+    words = set()
+    for part in ("src", "specs"):
+        for folder, _, files in os.walk(os.path.join(TOP, "crates", crate, part)):
+            for file in files:
+                words |= {file.split(".")[0]} | set(re.findall(r"\w+", text_of(os.path.join(folder, file))))
+    return words
+
+
+def check_promises(text):
+    for number, line in enumerate(text.splitlines(), 1):
+        if line.startswith("|") and any(len(cell.strip()) > 200 for cell in line.split("|")):
+            tell("docs/PROMISES.md", f"line {number}: a cell of more than 200 characters")
+    sections = re.split(r"^## ", text, flags=re.M)[1:]
+    rows = [line for section in sections if section.startswith("In short") for line in section.splitlines() if line.startswith("|")]
+    if len(rows) > 2 + 15:
+        tell("docs/PROMISES.md", f"the first table has {len(rows) - 2} rows")
+    named = [section.split("\n")[0] for section in sections]
+    if [name for name in named if name in crates()] != list(crates()):
+        tell("docs/PROMISES.md", "its sections aren't the crates in the order of crates.txt")
+    words = {crate: sources_of(crate) for crate in crates()}
+    for name, section in zip(named, sections):
+        if name in crates():
+            for line in section.splitlines():
+                if line.startswith("|") and line.count("|") == 3:
+                    check_contract(name, line.split("|")[2], words)
+
+
+def check_contract(crate, cell, words):
+    """Each name in a cell of contracts stands in the sources of its crate, or of the crate that the cell names."""
+    for code in re.findall(r"`([^`]*)`", cell):
+        homes = [crate] + [other for other in words if other in code]
+        for word in re.findall(r"\w+", code):
+            if word not in ("specs", "docs", "FORMATS", "md", *words) and not any(word in words[home] for home in homes):
+                tell("docs/PROMISES.md", f"{crate}: no {word} in its sources ({code})")
+
+
+def main():
+    for document in DOCUMENTS:
+        text = text_of(document)
+        check_links(document, text)
+        check_words(document, text)
+    check_readme(text_of("README.md"))
+    check_help(text_of("signals"))
+    check_promises(text_of("docs/PROMISES.md"))
+    print("\n".join(faults) or "documents: ok")
+    sys.exit(1 if faults else 0)
+
+
+if __name__ == "__main__":
+    main()
