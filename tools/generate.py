@@ -4,8 +4,8 @@
     python3 -B tools/generate.py check    says which files aren't what is made, and ends with 1 where there is one
     python3 -B tools/generate.py write    writes them
 
-They are the stored runs of cases, of runs and of visits, the tokens of the examples and of `sig_guard`, the picture of the
-crates, and the page of wrong bodies. What the scripts of the examples print was worked out by hand: `check` holds it against
+They are the stored runs of cases, of runs and of visits, the tokens of the examples and of `sig_guard`, the picture and the list
+of the crates, and the page of wrong bodies. What the scripts of the examples print was worked out by hand: `check` holds it against
 the model, and `write` leaves it.
 """
 import os

@@ -3,10 +3,11 @@
 import os
 import re
 import sys
+from itertools import zip_longest
 
 sys.dont_write_bytecode = True
 sys.path.insert(0, os.path.join(os.path.dirname(os.path.abspath(__file__)), ".."))
-from crates.crate_list import TOP, crates, kit
+from crates.crate_list import TOP, crates, kit, misplaced
 
 DOCUMENTS = [
     "README.md",
@@ -101,6 +102,11 @@ def check_help(text):
         tell("signals", f"its help has {told}, and the program knows {known}")
 
 
+def check_layers():
+    for name, one in misplaced():
+        tell("crates.txt", f"{name} uses {one}, whose line stands below its own")
+
+
 def sources_of(crate):
     """The words of a crate's sources and definitions, and the names of its files."""
     words = set()
@@ -120,8 +126,10 @@ def check_promises(text):
     if len(rows) > 2 + 15:
         tell("docs/PROMISES.md", f"the first table has {len(rows) - 2} rows")
     named = [section.split("\n")[0] for section in sections]
-    if [name for name in named if name in crates()] != list(crates()):
-        tell("docs/PROMISES.md", "its sections aren't the crates in the order of crates.txt")
+    for got, wanted in zip_longest((name for name in named if name in crates()), crates()):
+        if got != wanted:
+            tell("docs/PROMISES.md", f"a section {got} where crates.txt has {wanted}")
+            break
     words = {crate: sources_of(crate) for crate in crates()}
     for name, section in zip(named, sections):
         if name in crates():
@@ -144,6 +152,7 @@ def main():
         text = text_of(document)
         check_links(document, text)
         check_words(document, text)
+    check_layers()
     check_readme(text_of("README.md"))
     check_help(text_of("signals"))
     check_promises(text_of("docs/PROMISES.md"))
