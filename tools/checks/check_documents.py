@@ -11,6 +11,7 @@ from crates.crate_list import TOP, crates, kit, misplaced
 
 DOCUMENTS = [
     "README.md",
+    "CHANGELOG.md",
     "CONTRIBUTING.md",
     "docs/ARCHITECTURE.md",
     "docs/DECISIONS.md",
@@ -46,7 +47,7 @@ def headings(text):
 
 
 def check_links(document, text):
-    for name, place in re.findall(r"\]\(([^)#]*)#?([^)]*)\)", text):
+    for name, place in re.findall(r"\]\((?!https://)([^)#]*)#?([^)]*)\)", text):
         path = os.path.normpath(os.path.join(os.path.dirname(document), name)) if name else document
         if not os.path.exists(os.path.join(TOP, path)):
             tell(document, f"no file {name}")
@@ -92,14 +93,21 @@ def without_space(text):
 
 
 def check_help(text):
-    """The script's help has the commands that the program knows, and the three words of the script."""
+    """The script's help has the commands that the program knows, and the four words of the script."""
     told = re.findall(r"^\./signals (\S+)", text, re.M)
     paths = [f"crates/{crate}/src/{file}.rt" for crate in crates() for file in ("command", "asking")]
     sources = [text_of(path) for path in paths if os.path.exists(os.path.join(TOP, path))]
     known = re.findall(r'\bname(?:\.as_str\(\))? [!=]= "(\w+)"|"(\w+)" => Some\(Server::', "".join(sources))
     known = [one or other for one, other in known]
-    if sorted(told) != sorted(known + ["--unproved", "help", "test"]):
+    if sorted(told) != sorted(known + ["--unproved", "help", "test", "version"]):
         tell("signals", f"its help has {told}, and the program knows {known}")
+
+
+def check_version():
+    """The changes of the version that these sources have stand first."""
+    version = text_of("VERSION").strip()
+    if re.findall(r"^## \[([^]]*)\]", text_of("CHANGELOG.md"), re.M)[:1] != [version]:
+        tell("CHANGELOG.md", f"its first version isn't {version}, which VERSION has")
 
 
 def check_layers():
@@ -152,6 +160,7 @@ def main():
         text = text_of(document)
         check_links(document, text)
         check_words(document, text)
+    check_version()
     check_layers()
     check_readme(text_of("README.md"))
     check_help(text_of("signals"))
