@@ -25,6 +25,9 @@ DOCUMENTS = [
 # Words that a reader would stumble over, or that tell how something came to be.
 UNWANTED = re.compile(r"\b[Ww]ants? of memory\b|\b[Ff]ronts? of\b|\b[Bb]ehind\b|\b[Oo]ur own\b|\bNeither\b")
 
+# How wide a line of prose may be, and how long a sentence of the README.
+COLUMNS, WORDS = 100, 25
+
 faults = []
 
 
@@ -67,18 +70,48 @@ def check_words(document, text):
                 tell(document, f"line {number}: no file {path}")
 
 
+def prose(text):
+    """The lines of a document without blocks of code, headings, tables and comments, each with its number."""
+    is_code, before = False, ""
+    for number, line in enumerate(text.splitlines(), 1):
+        if line.startswith("```"):
+            is_code = not is_code
+        elif not is_code and not line.startswith(("#", "|", "<!--")) and not (line.startswith("    ") and before == ""):
+            yield number, line
+        # what goes on a block of indented code is code too
+        before = "" if line.startswith("    ") and before == "" else line.strip()
+
+
+def check_columns(document, text):
+    for number, line in prose(text):
+        if len(line) > COLUMNS:
+            tell(document, f"line {number}: {len(line)} columns")
+
+
+def sentences(text):
+    """The sentences of the prose and of the tables, each as a list of words; a span of code is one word."""
+    lines = [re.sub(r"^\s*- ", "\0", line) if line.strip() else "\0" for _, line in prose(text)]
+    parts = " ".join(lines).split("\0")
+    parts += [part for line in text.splitlines() if line.startswith("|") for cell in line.split("|") for part in cell.split(";")]
+    for part in parts:
+        plain = re.sub(r"\[([^]]*)\]\([^)]*\)", r"\1", re.sub(r"`[^`]*`", "code", part)).replace("**", "")
+        yield from (words.split() for words in re.split(r"(?<=[.!?])\s+", plain))
+
+
 def check_readme(text):
-    lines = text.splitlines()
-    if len(lines) > 200:
-        tell("README.md", f"{len(lines)} lines")
-    shown = [line[4:] for line in lines[:25] if line.startswith("    ")]
+    for words in sentences(text):
+        if len(words) > WORDS:
+            tell("README.md", f"{len(words)} words: {' '.join(words)}")
+    shown = [line[4:] for line in text.splitlines() if line.startswith("    ") and not line.startswith("     ")]
+    shown = shown[: shown.index("owed acme-1 1") + 1]
     given = [line[2:] for line in shown if line.startswith("> ")]
     printed = [line for line in shown if not line.startswith("> ")]
     if given != text_of("examples/first.txt").splitlines() or printed != text_of("examples/first.out.txt").splitlines():
         tell("README.md", "its first example isn't examples/first.txt with examples/first.out.txt")
-    shown = re.search(r"^```rust\n(.*?)^```", text, re.M | re.S).group(1)
-    if without_space(shown) not in without_space(without_contracts(text_of("crates/sig_guard/src/guard.rt"))):
-        tell("README.md", "its code isn't that of crates/sig_guard/src/guard.rt")
+    for language, path, change in ("rust", "crates/sig_guard/src/guard.rt", without_contracts), ("json", "examples/transmitter.json", str):
+        shown = re.search(rf"^```{language}\n(.*?)^```", text, re.M | re.S).group(1)
+        if without_space(shown) not in without_space(change(text_of(path))):
+            tell("README.md", f"what it shows of {path} doesn't stand there")
     for name in kit():
         if f"`{name}`" not in text:
             tell("README.md", f"it doesn't say that {name} is trusted")
@@ -160,6 +193,7 @@ def main():
         text = text_of(document)
         check_links(document, text)
         check_words(document, text)
+    check_columns("README.md", text_of("README.md"))
     check_version()
     check_layers()
     check_readme(text_of("README.md"))
