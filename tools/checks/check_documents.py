@@ -7,7 +7,7 @@ from itertools import zip_longest
 
 sys.dont_write_bytecode = True
 sys.path.insert(0, os.path.join(os.path.dirname(os.path.abspath(__file__)), ".."))
-from crates.crate_list import TOP, crates, kit, misplaced
+from crates.crate_list import TOP, crates, kit, layers, misplaced
 
 DOCUMENTS = [
     "README.md",
@@ -136,6 +136,20 @@ def check_help(text):
         tell("signals", f"its help has {told}, and the program knows {known}")
 
 
+def check_ways(text):
+    """Each crate of the product, which are those of all layers but the last, stands on a way of the architecture, and in a table."""
+    sections = re.split(r"^## ", text, flags=re.M)[1:]
+    ways = " ".join(section for section in sections if section.startswith("The way of"))
+    for heading, names in layers():
+        layer = re.search(rf"^### {re.escape(heading.partition(':')[0])}\n(.*?)(?=^##)", text, re.M | re.S)
+        listed = re.findall(r"^\| `(\w+)` \|", layer.group(1), re.M) if layer else []
+        if listed != names:
+            tell("docs/ARCHITECTURE.md", f"the table of '{heading}' has {listed}, and crates.txt {names}")
+        for name in names:
+            if heading != layers()[-1][0] and not re.search(rf"\b{name}\b", ways):
+                tell("docs/ARCHITECTURE.md", f"{name} stands on no way")
+
+
 def check_version():
     """The changes of the version that these sources have stand first."""
     version = text_of("VERSION").strip()
@@ -209,6 +223,7 @@ def main():
     check_layers()
     check_readme(text_of("README.md"))
     check_help(text_of("signals"))
+    check_ways(text_of("docs/ARCHITECTURE.md"))
     check_promises(text_of("docs/PROMISES.md"))
     print("\n".join(faults) or "documents: ok")
     sys.exit(1 if faults else 0)
