@@ -25,6 +25,15 @@ DOCUMENTS = [
 # Words that a reader would stumble over, or that tell how something came to be.
 UNWANTED = re.compile(r"\b[Ww]ants? of memory\b|\b[Ff]ronts? of\b|\b[Bb]ehind\b|\b[Oo]ur own\b|\bNeither\b")
 
+# What a reader has to find in a document.
+SECTIONS = {
+    "README.md": [
+        "Is it for you?", "What you need", "Try it", "What is proved", "What is only tested", "What is neither proved nor tested",
+        "What is trusted",
+    ],
+    "docs/PROMISES.md": ["How to read it", "Can a token be lost?", "Can a token take effect twice?", "By crate", "Wrong bodies"],
+    "docs/ARCHITECTURE.md": ["Words", "Crates", "The way of a request, and of its push", "The way of a record"],
+}
 # How wide a line of prose may be, and how long a sentence of the README.
 COLUMNS, WORDS = 100, 25
 
@@ -82,10 +91,27 @@ def prose(text):
         before = "" if line.startswith("    ") and before == "" else line.strip()
 
 
+def check_headings(document, text):
+    """One title, which comes first; no level is left out, and no heading comes twice, so that each has an anchor of its own."""
+    levels = [len(mark) for mark in re.findall(r"^(#+) ", re.sub(r"^```.*?^```", "", text, flags=re.M | re.S), re.M)]
+    if not text.startswith("# ") or levels.count(1) != 1:
+        tell(document, "it doesn't have one title, at its head")
+    if any(later > earlier + 1 for earlier, later in zip(levels, levels[1:])):
+        tell(document, "a level of headings is left out")
+    named = headings(text)
+    for name in sorted({name for name in named if named.count(name) > 1}):
+        tell(document, f"the heading '{name}' comes twice")
+    for name in SECTIONS.get(document, ()):
+        if name not in named:
+            tell(document, f"no heading '{name}'")
+
+
 def check_columns(document, text):
+    """No line of prose is too wide, as a reader sees it: without the targets of its links."""
     for number, line in prose(text):
-        if len(line) > COLUMNS:
-            tell(document, f"line {number}: {len(line)} columns")
+        width = len(re.sub(r"\]\([^)]*\)", "]", line))
+        if width > COLUMNS:
+            tell(document, f"line {number}: {width} columns")
 
 
 def sentences(text):
@@ -218,7 +244,8 @@ def main():
         text = text_of(document)
         check_links(document, text)
         check_words(document, text)
-    check_columns("README.md", text_of("README.md"))
+        check_headings(document, text)
+        check_columns(document, text)
     check_version()
     check_layers()
     check_readme(text_of("README.md"))

@@ -19,15 +19,18 @@ HEAD = """# Wrong bodies
 
 This page answers: which mistakes would the contracts catch?
 
-A contract may be too weak, and no proof shows that. So each wrong body below stands in for a right one, and the gate
-passes only where the prover refuses it. `tools/crates/list_wrong_bodies.py` makes this page from the files that it
-links to; [CONTRIBUTING.md](../CONTRIBUTING.md#wrong-bodies) says how to write one.
+A contract may be too weak, and no proof shows that. So each wrong body below stands in for a right
+one, and the gate passes only where the prover refuses it. `tools/crates/list_wrong_bodies.py` makes
+this page from the files that it links to. [CONTRIBUTING.md](../CONTRIBUTING.md#wrong-bodies) says
+how to write one.
 
 - Wrong bodies: {count}, of {crates} crates.
-- Tried by the kit's gate, each alone over a whole proof of its crate: {alone}, of {few} crates. They are marked `alone`.
+- Tried by the kit's gate, each alone over a whole proof of its crate: {alone}, of {few} crates. They
+  are marked `alone`.
 - The others are tried many at once, and each has to be refused by itself.
 
-These have none. Either they hold no code, or they promise nothing by contract that a stored run doesn't show:
+These have none. Either they hold no code, or they promise nothing by contract that a stored run
+doesn't show:
 
 {without}
 """
