@@ -161,7 +161,3 @@ def cases():
 def lines():
     """The same as lines of a part, each before its answer."""
     return [line.encode() for shows, case_line, found in cases() for line in (f"# {shows}.", case_line, "> " + found)]
-
-
-if __name__ == "__main__":
-    print(b"\n".join(lines()).decode())
