@@ -1,4 +1,4 @@
-"""Tries the wrong bodies of crates, many at once: python3 -B tools/try_wrong_bodies.py [--anew] [--control] [NAME..]
+"""Tries the wrong bodies of crates, many at once: python3 -B tools/checks/try_wrong_bodies.py [--anew] [--control] [NAME..]
 
 A wrong body is an edit in crates/NAME/wrong/, in the form of must-fail edits (CONTRIBUTING.md). The prover has to refuse
 each, or a contract is too weak. With no name the wrong bodies of all crates are tried, as the gate does, once `rt ci`
@@ -31,7 +31,7 @@ import shutil
 import sys
 import tempfile
 
-ROOT = pathlib.Path(__file__).resolve().parent.parent
+ROOT = pathlib.Path(__file__).resolve().parents[2]
 FUNCTION = re.compile(r"( *)(?:pub(?:\([^)]*\))? )?(?:final )?(?:unsafe )?fn (\w+)")
 PARTS = ("src", "specs", "proofs")
 # The functions that keep their bodies in each copy.
