@@ -29,7 +29,7 @@ pub fn requests_make_proper_calls()
 {}
 
 /// What a response tells rests of the rules on the issuer, the prefix of addresses and the default subjects alone: it
-/// tells no bearer, no client and no key.
+/// tells no bearer, no client and no key of theirs.
 pub fn responses_tell_no_secrets()
     ensures { TellsNoSecrets }
 {}
