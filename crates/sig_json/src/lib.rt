@@ -1,10 +1,11 @@
 //! Base types and JSON access.
 //!
-//! Everything above stands on this crate, and it stands on `serde_json` alone. It has the types that the whole
-//! product keeps its data in (`Text`, `Bytes`, `Items`), which contracts see as lists; the one error of a call that runs
-//! out of memory; the words that say what a reading or judging call answers (`specs/Answers`, `specs/Checks`); every
-//! number that bounds the product (`limits`); look-ups in JSON values; their one canonical text; and the reading and
-//! writing of an event payload's members by rules (`specs/Members`).
+//! Everything above stands on this crate, and it stands on the kit's libraries alone, on `serde_json` for JSON. It has the
+//! types that the whole product keeps its data in (`Text`, `Bytes`, `Items`), which contracts see as lists; the one error of
+//! a call that runs out of memory; the words that say what a reading or judging call answers (`specs/Answers`,
+//! `specs/Checks`); the limits that crates share (`limits`), beside which a few crates have some of their own; look-ups in
+//! JSON values; their one canonical text; and the reading and writing of an event payload's members by rules
+//! (`specs/Members`).
 //!
 //! Promised: a value is what `serde_json` reads of the bytes, and `NotJson` comes exactly where there is none; a value
 //! without a fraction has one canonical text, which is read back as that value, and what a text spells is in order, with

@@ -1,4 +1,5 @@
-//! Every number that bounds the product. A contract names the constant and never the figure.
+//! The limits that crates share; a limit of one crate alone stands in that crate. A contract names the constant and never
+//! the figure.
 
 /// The greatest journal end, stream number, token number, time and count of bytes read: 2^62.
 pub const LAST_NUMBER: u64 = 4_611_686_018_427_387_904;
