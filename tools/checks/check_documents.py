@@ -28,8 +28,7 @@ UNWANTED = re.compile(r"\b[Ww]ants? of memory\b|\b[Ff]ronts? of\b|\b[Bb]ehind\b|
 # What a reader has to find in a document.
 SECTIONS = {
     "README.md": [
-        "Is it for you?", "What you need", "Try it", "What is proved", "What is only tested", "What is neither proved nor tested",
-        "What is trusted",
+        "Is it for you?", "What you need", "Try it", "What is proved", "What is only tested", "What is not claimed", "What is trusted",
     ],
     "docs/PROMISES.md": ["How to read it", "Can a token be lost?", "Can a token take effect twice?", "By crate", "Wrong bodies"],
     "docs/ARCHITECTURE.md": ["Words", "Crates", "The way of a request, and of its push", "The way of a record"],
