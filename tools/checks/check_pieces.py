@@ -1,6 +1,8 @@
 #!/usr/bin/env python3
 """Checks on the built program what no contract says: how it reads and writes.
 
+    python3 -B tools/checks/check_pieces.py [PROGRAM]
+
 A person who types a line sees its verdict before the next line is read. A large input is read and written in large
 pieces; that part needs strace, and is passed over without it.
 """
@@ -10,13 +12,15 @@ import subprocess
 import sys
 import tempfile
 
-HERE = os.path.dirname(os.path.abspath(__file__))
-PROGRAM = os.path.join(HERE, "..", "..", "crates", "signals", "out", "signals")
+sys.dont_write_bytecode = True
+sys.path.insert(0, os.path.join(os.path.dirname(os.path.abspath(__file__)), ".."))
+from checks.served import program_path
+
 WORDS = ["fold", "https://idp.example", "https://rp.example", "MDEyMzQ1Njc4OWFiY2RlZjAxMjM0NTY3ODlhYmNkZWY"]
 
 
-def verdict_comes_before_the_next_line():
-    run = subprocess.Popen([PROGRAM, *WORDS], stdin=subprocess.PIPE, stdout=subprocess.PIPE)
+def verdict_comes_before_the_next_line(program):
+    run = subprocess.Popen([program, *WORDS], stdin=subprocess.PIPE, stdout=subprocess.PIPE)
     for number in range(1, 4):
         run.stdin.write(b"x.y.z\n")
         run.stdin.flush()
@@ -27,7 +31,7 @@ def verdict_comes_before_the_next_line():
     assert run.wait() == 0
 
 
-def large_input_comes_in_large_pieces(lines=200_000):
+def large_input_comes_in_large_pieces(program, lines=200_000):
     if shutil.which("strace") is None:
         print("strace isn't there: pieces not counted")
         return
@@ -37,7 +41,7 @@ def large_input_comes_in_large_pieces(lines=200_000):
             file.write(b"x.y.z\n" * lines)
         counts = os.path.join(folder, "counts")
         with open(source, "rb") as file, open(os.devnull, "wb") as sink:
-            status = subprocess.call(["strace", "-c", "-o", counts, "-e", "trace=read,write", PROGRAM, *WORDS], stdin=file, stdout=sink)
+            status = subprocess.call(["strace", "-c", "-o", counts, "-e", "trace=read,write", program, *WORDS], stdin=file, stdout=sink)
         assert status == 0, status
         # Columns: share of the time, seconds, microseconds a call, calls, errors where there were some, name.
         rows = [line.split() for line in open(counts)]
@@ -49,10 +53,11 @@ def large_input_comes_in_large_pieces(lines=200_000):
 
 
 def main():
-    if not os.path.exists(PROGRAM):
-        sys.exit("the program isn't built: run ./signals once")
-    verdict_comes_before_the_next_line()
-    large_input_comes_in_large_pieces()
+    program = program_path()
+    if program is None:
+        return
+    verdict_comes_before_the_next_line(program)
+    large_input_comes_in_large_pieces(program)
     print("ok")
 
 

@@ -70,7 +70,7 @@ def main():
     names = programs()
     paths = dict(zip(names, made(names)))
     tasks = [(name, lambda name=name: run_stored(name, paths[name])) for name in names]
-    tasks += [(words[-1], lambda words=words: run_check(words, paths["signals"])) for words in CHECKS]
+    tasks += [(next(word for word in words if word.startswith("tools/")), lambda words=words: run_check(words, paths["signals"])) for words in CHECKS]
     passed = 0
     for name, task in tasks:
         began = time.monotonic()
