@@ -175,6 +175,15 @@ def check_ways(text):
                 tell("docs/ARCHITECTURE.md", f"{name} stands on no way")
 
 
+def check_tools(text):
+    """Each tool has an entry in the page of tools."""
+    for folder, _, files in os.walk(os.path.join(TOP, "tools")):
+        for file in files:
+            path = os.path.relpath(os.path.join(folder, file), TOP)
+            if file.endswith((".py", ".sh")) and file != "__init__.py" and not re.search(rf"{re.escape(path)}\b", text):
+                tell("tools/README.md", f"it doesn't name {path}")
+
+
 def check_version():
     """The changes of the version that these sources have stand first."""
     version = text_of("VERSION").strip()
@@ -245,6 +254,7 @@ def main():
         check_words(document, text)
         check_headings(document, text)
         check_columns(document, text)
+    check_tools(text_of("tools/README.md"))
     check_version()
     check_layers()
     check_readme(text_of("README.md"))
