@@ -17,7 +17,7 @@ import time
 
 sys.dont_write_bytecode = True
 sys.path.insert(0, os.path.join(os.path.dirname(os.path.abspath(__file__)), "..", "tools"))
-import sign_tokens
+from cases import sign_tokens
 from run_journal import expect, run, seconds
 
 ROUNDS = 10

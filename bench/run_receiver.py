@@ -20,10 +20,10 @@ import uuid
 
 sys.dont_write_bytecode = True
 sys.path.insert(0, os.path.join(os.path.dirname(os.path.abspath(__file__)), "..", "tools"))
-from check_receiver import Receiver
-from receiver_rows import opaque, token
+from checks.check_receiver import Receiver
+from checks.receiver_rows import opaque, token
 from run_server import LINK, Link, bare
-from served import fail
+from checks.served import fail
 
 ROUNDS = 10
 PUSHES = 640

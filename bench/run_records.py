@@ -20,8 +20,8 @@ import tempfile
 
 sys.dont_write_bytecode = True
 sys.path.insert(0, os.path.join(os.path.dirname(os.path.abspath(__file__)), "..", "tools"))
-import record_cases as made
-import sign_tokens
+from cases import record_cases as made
+from cases import sign_tokens
 
 BYTES = 700
 COUNT = 100_000

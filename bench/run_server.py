@@ -19,8 +19,8 @@ import uuid
 
 sys.dont_write_bytecode = True
 sys.path.insert(0, os.path.join(os.path.dirname(os.path.abspath(__file__)), "..", "tools"))
-from check_server import SESSION_REVOKED, Server
-from served import fail
+from checks.check_server import SESSION_REVOKED, Server
+from checks.served import fail
 
 import socket
 

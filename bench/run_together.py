@@ -22,11 +22,11 @@ import uuid
 
 sys.dont_write_bytecode = True
 sys.path.insert(0, os.path.join(os.path.dirname(os.path.abspath(__file__)), "..", "tools"))
-from check_receiver import Receiver
-from check_server import Server
+from checks.check_receiver import Receiver
+from checks.check_server import Server
 from run_receiver import push
 from run_server import LINK, Link, bare, request
-from served import fail
+from checks.served import fail
 
 ROUNDS = 5
 PUSHES = 1_280

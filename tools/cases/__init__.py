@@ -1,1 +1,1 @@
-"""An independent model of what the lines of `sig_cases` are answered."""
+"""Rows and generators of cases, with the answers that stand by hand."""

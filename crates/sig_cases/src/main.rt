@@ -9,7 +9,7 @@
 //! bytes, texts and values stand in them.
 //!
 //! Promised: it returns, and each status but 0 has its cause. Its input and expected output are made by
-//! `tools/cases_expected.py`, and never by this program.
+//! `tools/generate.py`, and never by this program.
 #![tactic(auto)]
 
 mod asked;

@@ -1,5 +1,5 @@
-//! A receiver's commands over what the outside hands out: `receive`, which serves its store one link after the other in the
-//! caller's thread (RFC 8935, section 2), and `fetch`, which polls the transmitter that its settings name (RFC 8936, section 2).
+//! A receiver's commands over what the outside hands out: `receive`, which serves its store watch after watch, the links of
+//! each side by side (RFC 8935, section 2), and `fetch`, which polls the transmitter that its settings name (RFC 8936, section 2).
 //!
 //! ```text
 //!     <settings> -> bytes -> rules, place -> given back
@@ -12,8 +12,8 @@
 //! node over a store, on `sig_rxwatch` for a watch, and on `sig_fetch` for the rounds. Promised: each end has its cause, by
 //! the outside's counts or by what the settings and the store tell; what is opened is given back before the end, on every
 //! path; and where the store is told, what is put back tells what it told before with the token texts of this run, which are
-//! those of the turns of its links or of its rounds. Left out: links that are served at the same time, and that a link or a
-//! token comes.
+//! those of the turns of its links or of its rounds. Left out: that links are served at the same time, which no contract
+//! can say, and that a link or a token comes.
 #![tactic(auto)]
 
 mod ending;

@@ -1,5 +1,5 @@
-//! The command `serve`: a transmitter's server over what the outside hands out, one link after the other in the caller's
-//! thread (OpenID Shared Signals Framework 1.0, sections 7 and 8).
+//! The command `serve`: a transmitter's server over what the outside hands out, watch after watch (OpenID Shared Signals
+//! Framework 1.0, sections 7 and 8). The links of a watch are served side by side, each in a thread of its own.
 //!
 //! ```text
 //!     <settings> -> bytes -> rules, place -> given back
@@ -11,7 +11,7 @@
 //! node over a store, and on `sig_txwatch` for a watch. Promised: each end has its cause, by the outside's counts or by what
 //! the settings and the store tell; what is opened is given back before the end, on every path; and where the store is told,
 //! what is put back tells what it told before with the facts of this run, which are those of the turns of its links. Left out:
-//! links that are served at the same time, and that a link comes.
+//! that links are served at the same time, which no contract can say, and that a link comes.
 #![tactic(auto)]
 
 mod opening;

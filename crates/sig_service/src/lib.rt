@@ -15,8 +15,8 @@
 //! and `init` the files of its store; and no other file is touched. `run_plain` does the same for all words but those of `serve`
 //! and `receive`, and always returns.
 //!
-//! Left out: a crash while a store is made, of which nothing is said; links that are served at the same time; and that a link
-//! comes.
+//! Left out: a crash while a store is made, of which nothing is said; that links are served at the same time, which no contract
+//! can say; and that a link comes.
 #![tactic(auto)]
 
 mod asking;

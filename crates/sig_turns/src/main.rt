@@ -13,7 +13,7 @@
 //!     clear              a core without streams; the rules stay
 //!
 //! Promised: it returns, and each status but 0 has its cause. Its input and expected output are made by
-//! `tools/cases_expected.py`, and never by this program.
+//! `tools/generate.py`, and never by this program.
 #![tactic(auto)]
 
 mod answers;

@@ -1,4 +1,4 @@
-//! Tokens by an independent signer (`tools/sign_tokens.py`, by Python's hmac, base64 and json), and the key of them.
+//! Tokens by an independent signer (`tools/cases/sign_tokens.py`, by Python's hmac, base64 and json), and the key of them.
 
 use sig_json::{Bytes, Memory, Text};
 use sig_jws::Key;

@@ -13,7 +13,7 @@
 //! Bytes stand as base64url, `-` for none. Between two lines the node is taken apart and loaded again from its two files.
 //!
 //! Promised: it returns, and each status but 0 has its cause. Its input and expected output are made by
-//! `tools/visit_cases.py`, and never by this program.
+//! `tools/generate.py`, and never by this program.
 #![tactic(auto)]
 
 mod store;

@@ -1,0 +1,1 @@
+"""What the gate or a person runs against the program and the documents."""

@@ -1,0 +1,80 @@
+#!/usr/bin/env bash
+# Refuses each allocation of a run in turn, of `fold` and `replay` over the examples. Each run has to end with the whole
+# text, or with status 9 after a prefix of it and the last line of that status.
+#
+# The built program gets its memory by the C library's `malloc` and `realloc` alone. A small library that is loaded
+# before that one counts these calls, and refuses those of the given numbers: each alone, and each with all after it.
+set -eu
+cd "$(dirname "$0")/../.."
+# Builds the program where that has to be.
+./signals </dev/null >/dev/null || [ $? = 1 ]
+program=crates/signals/out/signals
+folder=$(mktemp -d)
+trap 'rm -rf "$folder"' EXIT
+
+cc -shared -fPIC -o "$folder/refusing.so" -x c - <<'C'
+#define _GNU_SOURCE
+#include <dlfcn.h>
+#include <stdio.h>
+#include <stdlib.h>
+
+static long calls;
+
+static int is_refused(void) {
+    calls++;
+    return calls >= atol(getenv("FIRST")) && calls <= atol(getenv("LAST"));
+}
+
+void *malloc(size_t size) {
+    void *(*given)(size_t) = dlsym(RTLD_NEXT, "malloc");
+    return is_refused() ? NULL : given(size);
+}
+
+void *realloc(void *place, size_t size) {
+    void *(*given)(void *, size_t) = dlsym(RTLD_NEXT, "realloc");
+    return is_refused() ? NULL : given(place, size);
+}
+
+__attribute__((destructor)) static void tell(void) { dprintf(2, "%ld\n", calls); }
+C
+
+# Runs the program with the calls from FIRST to LAST refused, and prints how many calls it made.
+run_refused() { # FIRST LAST INPUT OUTPUT WORDS..
+    FIRST=$1 LAST=$2 LD_PRELOAD=$folder/refusing.so "$program" "${@:5}" <"$3" 2>&1 >"$4"
+}
+
+ends_well() { # STATUS
+    case $1 in
+    0) cmp "$folder/made" "$folder/whole" ;;
+    9)
+        head -n -1 "$folder/made" >"$folder/prefix"
+        [ "$(tail -n 1 "$folder/made")" = 'signals: memory' ] && cmp -n "$(stat -c %s "$folder/prefix")" "$folder/prefix" "$folder/whole"
+        ;;
+    *) false ;;
+    esac
+}
+
+check_run() { # INPUT WORDS..
+    local calls call last status
+    local -A ended=([0]=0 [9]=0)
+    calls=$(run_refused 0 0 "$1" "$folder/whole" "${@:2}")
+    for ((call = 1; call <= calls; call++)); do
+        for last in "$call" "$calls"; do
+            status=0
+            run_refused "$call" "$last" "$1" "$folder/made" "${@:2}" >/dev/null || status=$?
+            if ! ends_well "$status"; then
+                echo "$1: calls $call to $last refused: status $status"
+                cat "$folder/made"
+                exit 1
+            fi
+            ended[$status]=$((ended[$status] + 1))
+        done
+    done
+    echo "$1: $calls allocations, each refused alone and with all after it: status 0 ${ended[0]} times, 9 ${ended[9]} times"
+}
+
+check_run examples/tokens.txt fold https://idp.example https://rp.example MDEyMzQ1Njc4OWFiY2RlZjAxMjM0NTY3ODlhYmNkZWY
+check_run examples/first.txt replay
+check_run examples/replay.txt replay
+python3 -B tools/checks/check_stops.py script >"$folder/stops.txt"
+check_run "$folder/stops.txt" replay

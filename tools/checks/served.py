@@ -1,0 +1,108 @@
+"""The program as it serves a store, for the checks and the measures of both servers."""
+import atexit
+import http.client
+import json
+import os
+import signal
+import socket
+import subprocess
+import sys
+import time
+
+from crates.crate_list import TOP
+
+
+def fail(why):
+    raise SystemExit(f"{os.path.basename(sys.argv[0])}: {why}")
+
+
+def need(is_so, why):
+    if not is_so:
+        fail(why)
+
+
+def free_port():
+    with socket.socket() as found:
+        found.bind(("127.0.0.1", 0))
+        return found.getsockname()[1]
+
+
+def program_path():
+    """The program that the first word or else SIGNALS_PROGRAM names, or the proved one, where that is built here."""
+    named = sys.argv[1] if len(sys.argv) > 1 else os.environ.get("SIGNALS_PROGRAM")
+    program = os.path.abspath(named) if named else os.path.join(TOP, "crates/signals/out/signals")
+    if os.access(program, os.X_OK):
+        return program
+    print(f"passed over: no program is built at {os.path.relpath(program, TOP)}")
+    return None
+
+
+def built_program():
+    """The program, where a socket can be opened here too."""
+    program = program_path()
+    try:
+        free_port()
+    except OSError:
+        print("passed over: no socket can be opened here")
+        return None
+    return program
+
+
+class Served:
+    """One of the two servers, by the settings of an example, at a port of its own and over a store in a folder."""
+
+    def __init__(self, program, room, word, example, store):
+        self.program, self.room, self.word, self.port, self.running = program, room, word, free_port(), None
+        self.settings, self.store, self.bearers = os.path.join(room, example), os.path.join(room, store), {}
+        with open(os.path.join(TOP, "examples", example), encoding="utf-8") as file:
+            self.said = json.load(file)
+        self.said["listen"] = f"127.0.0.1:{self.port}"
+        self.write(self.settings, self.said)
+
+    @staticmethod
+    def write(path, said):
+        with open(path, "w", encoding="utf-8") as file:
+            json.dump(said, file)
+
+    def run(self, *words):
+        ran = subprocess.run([self.program, *words], capture_output=True, timeout=60, check=False)
+        return ran.returncode, ran.stdout.decode()
+
+    def start(self, before=None, wait=10):
+        """Starts it, and waits at most so many seconds until it listens."""
+        words = [self.program, self.word, self.settings, self.store, "1000000"]
+        self.running = subprocess.Popen(words, stdout=subprocess.PIPE, stderr=subprocess.PIPE, preexec_fn=before)
+        # where a check fails, no server is left behind
+        atexit.register(self.running.kill)
+        for _ in range(wait * 50):
+            if self.running.poll() is not None:
+                fail(f"the server ended with {self.running.returncode}: {self.running.communicate()}")
+            try:
+                socket.create_connection(("127.0.0.1", self.port), 1).close()
+                return
+            except OSError:
+                time.sleep(0.02)
+        fail("the server doesn't listen")
+
+    def kill(self):
+        self.running.send_signal(signal.SIGKILL)
+        out, _ = self.running.communicate()
+        need(out == b"", f"the server wrote to its output: {out!r}")
+
+    def ask_as_text(self, method, path, body=None, bearer="client", headers=None):
+        """The status, the fields and the bytes of an answer; a bearer is named, or stands for itself."""
+        link = http.client.HTTPConnection("127.0.0.1", self.port, timeout=60)
+        bearer = self.bearers.get(bearer, bearer)
+        fields = {"authorization": f"Bearer {bearer}"} if bearer else {}
+        if body is not None:
+            fields["content-type"] = "application/json"
+        link.request(method, path, body, {**fields, **(headers or {})})
+        response = link.getresponse()
+        text = response.read()
+        link.close()
+        return response.status, dict(response.getheaders()), text
+
+    def ask(self, method, path, body=None, bearer="client"):
+        """The status of an answer, and what its JSON says."""
+        status, _, text = self.ask_as_text(method, path, None if body is None else json.dumps(body), bearer)
+        return status, json.loads(text) if text else None
