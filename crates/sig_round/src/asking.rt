@@ -11,7 +11,8 @@ use sig_terms::Call;
 use sig_txnode::{Taker, Turn};
 use std::sync::Wait;
 
-// The turn of a call that a link asks at a time, unless it was refused memory.
+/// The turn of a call that a link asks at a time, which no log keeps yet. It may wait for others that ask the taker. At
+/// `Memory` the taker has no turn more.
 pub fn turn_of<R: Wait, K: Taker>(
     rt: &R,
     taker: &mut K,

@@ -18,5 +18,6 @@ mod log;
 mod round;
 mod threads;
 
+pub use asking::turn_of;
 pub use log::TurnLog;
 pub use round::push_round;

@@ -16,9 +16,9 @@ pub struct TurnLog {
 }
 
 impl TurnLog {
-    ghost use Rattle.std.specs.Prelude.{◌≡◌, [], ◌∷◌, ◌++◌, IfOk, OnErr, OnOk};
+    ghost use Rattle.std.specs.Prelude.{◌≡◌, [], ◌∷◌, ◌++◌, OnErr, OnOk};
     ghost use Rattle.sig_calls.specs.Proper.{IsProperCall};
-    ghost use Rattle.sig_round.specs.Turns.{Adds, AddsTurnOf, Grew, HasRoom, IsTurnOf};
+    ghost use Rattle.sig_round.specs.Turns.{Adds, AddsTurnOf, HasRoom};
 
     /// Asks a call as one turn, and keeps the turn last.
     ///
@@ -58,7 +58,7 @@ impl TurnLog {
         ensures link { self.new.link ≡ self.old.link }
         ensures now { self.new.now ≡ self.old.now }
     {
-        match self.turn(rt, taker, call) {
+        match turn_of(rt, taker, self.link, self.now, call) {
             Ok(turn) => {
                 self.keep(turn);
                 Ok(())
@@ -67,8 +67,8 @@ impl TurnLog {
         }
     }
 
-    /// Makes room for one turn.
-    pub fn make_room(&mut self) -> Result<(), Memory>
+    // Makes room for one turn.
+    fn make_room(&mut self) -> Result<(), Memory>
         ensures room { OnOk result (HasRoom self.new) }
         ensures turns { self.new.turns.items ≡ self.old.turns.items }
         ensures link { self.new.link ≡ self.old.link }
@@ -77,18 +77,8 @@ impl TurnLog {
         Ok(self.turns.reserve(1)?)
     }
 
-    /// The turn of a call, which this log doesn't keep. At `Memory` the taker has no turn more.
-    pub fn turn<R: Wait, K: Taker>(&self, rt: &R, taker: &mut K, call: Call) -> Result<Turn, Memory>
-        requires { IsProperCall call }
-        ensures turn { IfOk result (λ turn. IsTurnOf (record { link = self.entry.now.link; now = self.entry.now.now }) call turn) }
-        ensures told { IfOk result (λ turn. Grew (K.told taker.old) (K.told taker.new) (turn ∷ [])) }
-        ensures memory { OnErr result (K.told taker.new ≡ K.told taker.old) }
-    {
-        turn_of(rt, taker, self.link, self.now, call)
-    }
-
-    /// Keeps a turn last, for which there is room.
-    pub fn keep(&mut self, turn: Turn)
+    // Keeps a turn last, for which there is room.
+    fn keep(&mut self, turn: Turn)
         requires { HasRoom self.old }
         ensures turns { self.new.turns.items ≡ self.old.turns.items ++ turn ∷ [] }
         ensures link { self.new.link ≡ self.old.link }

@@ -1,0 +1,43 @@
+-- How what came of a request is told (RFC 9110, section 15): a refusal of the routes, or its turn.
+use Rattle.std.specs.Prelude.{ℕ, Bool, false, List, [], unwrap_or, Result, Ok, Err}
+use Rattle.sig_http.specs.Answering.{closing as closing_with, refused_with}
+use Rattle.sig_http.specs.Spelling.{response_spelling}
+use Rattle.sig_http.specs.declared.message.Response.{Response}
+use Rattle.sig_journal.specs.declared.node_fault.NodeFault.{NodeFault}
+use Rattle.sig_journal.specs.declared.node_fault.NodeFault.TheVariants.{Store, Full, Memory}
+use Rattle.sig_link.specs.Meaning.{Meaning}
+use Rattle.sig_link.specs.declared.course.Course.{Course}
+use Rattle.sig_link.specs.declared.course.Course.TheVariants.{Refused, Turned}
+
+-- a response without a body
+abbrev pub empty : ℕ → Response
+empty status = record { status = status; headers = []; close = false; body = [] }
+
+-- the response where memory runs out (RFC 4918, section 11.5), after which the link closes
+abbrev pub starved : Response
+starved = closing_with 507
+
+-- the response to why a turn has no answer: 503 where the store failed, and 500 where a number would pass its limit
+abbrev pub faulted : NodeFault → Response
+faulted Store = empty 503
+faulted (Full n) = empty 500
+faulted Memory = starved
+
+-- the response to the result of a turn, by that to its answer
+abbrev pub response_in : {Answer : Type 0} → (Answer → Response) → Result Answer NodeFault → Response
+response_in reply (Ok answer) = reply answer
+response_in reply (Err fault) = faulted fault
+
+-- a response that says whether the link closes after it (RFC 9112, section 9.6)
+abbrev pub closing : Bool → Response → Response
+closing close response = record response { close = close }
+
+module _ {Rules Call Turn Told : Type 0} (m : Meaning Rules Call Turn Told) (rules : Rules) where
+  -- what came of a request
+  abbrev pub response_to : Course Turn → Response
+  response_to (Refused refusal) = unwrap_or (refused_with refusal) starved
+  response_to (Turned turn) = m.response rules turn
+
+  -- the text of the response to a request
+  unfoldable pub text_of : Bool → Course Turn → List ℕ
+  text_of close course = response_spelling (closing close (response_to course))

@@ -1,0 +1,4 @@
+pub mod Grown
+pub mod Laws
+pub mod Receiver
+pub mod Turning
