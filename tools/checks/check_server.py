@@ -142,6 +142,7 @@ def refusals(server, room):
     ended = server.run("serve", server.settings, os.path.join(room, "nowhere", "tx"), "1")
     need(ended == (5, "signals: store failed\n"), f"a store in a folder that isn't there: {ended}")
     need(server.run("init", "rx", other, str(uuid.UUID(int=9))) == (0, ""), "a receiver's store isn't made")
+    need(os.stat(other + ".a").st_mode & 0o777 == 0o600, "a new store isn't its owner's alone")
     ended = server.run("serve", server.settings, other, "1")
     need(ended == (6, "signals: damaged a 6\n"), f"a receiver's store: {ended}")
 

@@ -15,6 +15,7 @@ import socket
 import sys
 import tempfile
 import time
+import uuid
 
 sys.dont_write_bytecode = True
 sys.path.insert(0, os.path.join(os.path.dirname(os.path.abspath(__file__)), ".."))
@@ -93,6 +94,8 @@ def main():
         return
     with tempfile.TemporaryDirectory() as room:
         server = Server(program, room)
+        status, _ = server.run("init", "tx", server.store, str(uuid.uuid4()))
+        need(status == 0, f"init ends with {status}")
         server.start()
         beside = opened(server)
         need(answered(beside), "a request isn't answered")
