@@ -47,7 +47,8 @@ pub fn respond<E: End, L: Link>(
     close: bool,
 ) -> Result<(), LinkEnd>
     ensures responds { Responds (spec.text_of E.meaning rules.now close course.now) result
-        (seen L.left L.written L.Source.faults L.Sink.faults stream.old) (seen L.left L.written L.Source.faults L.Sink.faults stream.new) }
+        (seen L.left L.written L.Source.faults L.Sink.faults stream.old)
+        (seen L.left L.written L.Source.faults L.Sink.faults stream.new) }
     ensures left { L.left stream.new ≡ L.left stream.old }
     ensures reads { L.Source.faults stream.new ≡ L.Source.faults stream.old }
     ensures place { L.dialled stream.new ≡ L.dialled stream.old }
@@ -65,7 +66,8 @@ fn response_to<E: End>(
     course: &Course<E::Turn>,
     close: bool,
 ) -> Result<Response, Memory>
-    ensures { IfOk result (λ response. response ≡ spec.closing close (spec.response_to E.meaning rules.now course.now)) }
+    ensures { IfOk result (λ response.
+        response ≡ spec.closing close (spec.response_to E.meaning rules.now course.now)) }
 {
     let mut response = match course {
         Course::Refused(refusal) => refusal_of(alloc, refusal)?,

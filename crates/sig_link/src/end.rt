@@ -1,4 +1,4 @@
-ghost use Rattle.std.specs.Prelude.{◌≡◌, ◌∷◌, ◌<◌, [], ℕ, List, IfOk, OnErr, is_err, vec_capacity, vec_len};
+ghost use Rattle.std.specs.Prelude.{◌≡◌, ◌∷◌, ◌<◌, [], IfOk, OnErr, is_err, vec_capacity, vec_len};
 ghost use Rattle.sig_json.specs.Answers.{Answers};
 ghost use Rattle.sig_link.specs.Course.{Continues};
 ghost use Rattle.sig_link.specs.Meaning.{Grows, Meaning};
@@ -54,8 +54,10 @@ pub trait End {
         call: Self::Call,
     ) -> Result<Self::Turn, Memory>
         requires { proper call }
-        ensures turn { IfOk result (λ turn. meaning.Makes link call turn (S.view side.old) (S.view side.new)) }
-        ensures told { IfOk result (λ turn. meaning.Grew (told taker.old) (told taker.new) (turn ∷ [])) }
+        ensures turn { IfOk result (λ turn.
+            meaning.Makes link call turn (S.view side.old) (S.view side.new)) }
+        ensures told { IfOk result (λ turn.
+            meaning.Grew (told taker.old) (told taker.new) (turn ∷ [])) }
         ensures memory { OnErr result (told taker.new ≡ told taker.old) }
         ensures tries { OnErr result (meaning.Tries (S.view side.old) (S.view side.new)) };
 
@@ -75,8 +77,9 @@ pub trait End {
         turns: &mut Vec<Self::Turn>,
     ) -> Result<(), Memory>
         requires { vec_len turns.old < vec_capacity turns.old }
-        ensures { Continues meaning rules.now (Course.Turned turn) (is_err result) turns.old.items turns.new.items
-            (told taker.old) (told taker.new) (S.view side.old) (S.view side.new) };
+        ensures { Continues meaning rules.now (Course.Turned turn) (is_err result)
+            turns.old.items turns.new.items (told taker.old) (told taker.new)
+            (S.view side.old) (S.view side.new) };
 
     ghost grows: { Grows meaning.Grew };
 }

@@ -44,9 +44,11 @@ pub fn serve_link<E: End, R: Wait, L: Link, S: Side>(
     ensures link { result.link ≡ link }
 
     // The link was served from its first byte on, with no turn at first, and the log has the turns and the end.
-    ensures serves { (kept : List ℕ) × Serves E.meaning rules.now link result.end
-        (moment [] (seen L.left L.written L.Source.faults L.Sink.faults stream.old) (desk_of (S.view side.old) (E.told taker.old) []))
-        (moment kept (seen L.left L.written L.Source.faults L.Sink.faults stream.new) (desk_of (S.view side.new) (E.told taker.new) result.turns)) }
+    ensures serves { let came = seen L.left L.written L.Source.faults L.Sink.faults stream.old in
+        let left = seen L.left L.written L.Source.faults L.Sink.faults stream.new in
+        (kept : List ℕ) × Serves E.meaning rules.now link result.end
+        (moment [] came (desk_of (S.view side.old) (E.told taker.old) []))
+        (moment kept left (desk_of (S.view side.new) (E.told taker.new) result.turns)) }
 
     // Where the link was dialled, or that it was accepted, stays.
     ensures place { L.dialled stream.new ≡ L.dialled stream.old }
@@ -86,9 +88,11 @@ fn serve_all<E: End, R: Wait, L: Link, S: Side>(
     work: &mut Work<E::Turn>,
 ) -> LinkEnd
     requires { work.old.answered ≡ 0 }
-    ensures serves { Serves E.meaning rules.now work.old.link result
-        (moment_of work.old (seen L.left L.written L.Source.faults L.Sink.faults stream.old) (S.view side.old) (E.told taker.old))
-        (moment_of work.new (seen L.left L.written L.Source.faults L.Sink.faults stream.new) (S.view side.new) (E.told taker.new)) }
+    ensures serves { let came = seen L.left L.written L.Source.faults L.Sink.faults stream.old in
+        let left = seen L.left L.written L.Source.faults L.Sink.faults stream.new in
+        Serves E.meaning rules.now work.old.link result
+        (moment_of work.old came (S.view side.old) (E.told taker.old))
+        (moment_of work.new left (S.view side.new) (E.told taker.new)) }
     ensures place { L.dialled stream.new ≡ L.dialled stream.old }
 {
     while work.answered < REQUESTS_PER_LINK {
@@ -110,9 +114,11 @@ fn serve_next<E: End, R: Wait, L: Link, S: Side>(
     work: &mut Work<E::Turn>,
 ) -> Option<LinkEnd>
     requires { work.old.answered < REQUESTS_PER_LINK }
-    ensures passes { Passes E.meaning rules.now work.old.link work.old.answered result
-        (moment_of work.old (seen L.left L.written L.Source.faults L.Sink.faults stream.old) (S.view side.old) (E.told taker.old))
-        (moment_of work.new (seen L.left L.written L.Source.faults L.Sink.faults stream.new) (S.view side.new) (E.told taker.new)) }
+    ensures passes { let came = seen L.left L.written L.Source.faults L.Sink.faults stream.old in
+        let left = seen L.left L.written L.Source.faults L.Sink.faults stream.new in
+        Passes E.meaning rules.now work.old.link work.old.answered result
+        (moment_of work.old came (S.view side.old) (E.told taker.old))
+        (moment_of work.new left (S.view side.new) (E.told taker.new)) }
     ensures counts { (work.new.link ≡ work.old.link) × (work.new.answered ≡ work.old.answered) }
     ensures place { L.dialled stream.new ≡ L.dialled stream.old }
 {
@@ -138,9 +144,12 @@ fn answer<E: End, R: Wait, L: Link, S: Side>(
     request: &Request,
 ) -> Option<LinkEnd>
     requires { work.old.answered < REQUESTS_PER_LINK }
-    ensures answers { AnswersRequest E.meaning rules.now work.old.link work.old.answered request.now result
-        (seen L.left L.written L.Source.faults L.Sink.faults stream.old) (seen L.left L.written L.Source.faults L.Sink.faults stream.new)
-        (desk_of (S.view side.old) (E.told taker.old) work.old.turns.items) (desk_of (S.view side.new) (E.told taker.new) work.new.turns.items) }
+    ensures answers { AnswersRequest E.meaning rules.now work.old.link work.old.answered request.now
+        result
+        (seen L.left L.written L.Source.faults L.Sink.faults stream.old)
+        (seen L.left L.written L.Source.faults L.Sink.faults stream.new)
+        (desk_of (S.view side.old) (E.told taker.old) work.old.turns.items)
+        (desk_of (S.view side.new) (E.told taker.new) work.new.turns.items) }
     ensures left { L.left stream.new ≡ L.left stream.old }
     ensures reads { L.Source.faults stream.new ≡ L.Source.faults stream.old }
     ensures place { L.dialled stream.new ≡ L.dialled stream.old }

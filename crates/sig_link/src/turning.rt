@@ -21,11 +21,14 @@ pub fn course_of<E: End, R: Wait, S: Side>(
     work: &mut Work<E::Turn>,
     request: &Request,
 ) -> Result<Course<E::Turn>, Memory>
-    ensures comes { IfOk result (λ course. Comes E.meaning rules.now work.old.link request.now course (S.view side.old) (S.view side.new)) }
-    ensures told { IfOk result (λ course. E.meaning.Grew (E.told taker.old) (E.told taker.new) (own_turn course)) }
+    ensures comes { IfOk result (λ course. Comes E.meaning rules.now work.old.link request.now course
+        (S.view side.old) (S.view side.new)) }
+    ensures told { IfOk result (λ course.
+        E.meaning.Grew (E.told taker.old) (E.told taker.new) (own_turn course)) }
     ensures room { OnOk result (HasRoom work.new) }
     ensures memory { OnErr result (E.told taker.new ≡ E.told taker.old) }
-    ensures tries { OnErr result ((S.view side.new ≡ S.view side.old) ⊎ E.meaning.Tries (S.view side.old) (S.view side.new)) }
+    ensures tries { OnErr result ((S.view side.new ≡ S.view side.old)
+        ⊎ E.meaning.Tries (S.view side.old) (S.view side.new)) }
     ensures turns { work.new.turns.items ≡ work.old.turns.items }
     ensures beside { SameBeside work.old work.new }
 {
@@ -62,8 +65,9 @@ pub fn follow<E: End, R: Wait, S: Side>(
     course: Course<E::Turn>,
 ) -> Result<(), Memory>
     requires { HasRoom work.old }
-    ensures follows { Continues E.meaning rules.now course (is_err result) work.old.turns.items work.new.turns.items
-        (E.told taker.old) (E.told taker.new) (S.view side.old) (S.view side.new) }
+    ensures follows { Continues E.meaning rules.now course (is_err result)
+        work.old.turns.items work.new.turns.items (E.told taker.old) (E.told taker.new)
+        (S.view side.old) (S.view side.new) }
     ensures beside { SameBeside work.old work.new }
 {
     match course {

@@ -5,7 +5,7 @@ use Rattle.sig_rxnode.specs.declared.rules.RxRules.{RxRules}
 use Rattle.sig_logs.specs.Logs.{Differs, HasTurns}
 use Rattle.sig_logs.specs.declared.difference.Differ.{Differ}
 use Rattle.sig_opening.specs.Watches.{Standing, Tells}
-use Rattle.sig_rxlink.specs.declared.log.RxLinkLog.{RxLinkLog}
+use Rattle.sig_link.specs.declared.log.LinkLog.{LinkLog}
 use Rattle.sig_rxnode.specs.declared.turn.RxTurn.{RxTurn}
 use Rattle.sig_rxnode.specs.Turns.{AreTrue, changes_of}
 use Rattle.sig_rxwatch.specs.Serving.{ServesOne}
@@ -16,7 +16,7 @@ use Rattle.sig_watch.specs.declared.report.Report.{Report}
 
 -- a watch: what it reports, the node's turns in order, the token texts that these added, and what differs between the two, if anything
 pub record Watch : Type 0 where
-  pub report : Report RxLinkLog
+  pub report : Report (LinkLog RxTurn)
   pub turns : List RxTurn
   pub texts : List (List ℕ)
   pub differ : Option Differ
@@ -30,8 +30,8 @@ pub record IsWatch (rules : RxRules) (watch : Watch) (old new : Standing Receive
   pub links : Attends (ServesOne rules) stop watch.report.links old.door new.door
   pub shut : watch.report.shut ≡ is_shut stop
   pub compares : MatchOption watch.differ
-      (HasTurns (λ (t : RxTurn). t.link) (λ (log : RxLinkLog). log.link) (λ (log : RxLinkLog). log.turns) watch.report.links watch.turns)
-      (λ differ. Differs (λ (t : RxTurn). t.link) (λ (log : RxLinkLog). log.link) (λ (log : RxLinkLog). log.turns) watch.report.links watch.turns differ)
+      (HasTurns (λ (t : RxTurn). t.link) (λ (log : LinkLog RxTurn). log.link) (λ (log : LinkLog RxTurn). log.turns) watch.report.links watch.turns)
+      (λ differ. Differs (λ (t : RxTurn). t.link) (λ (log : LinkLog RxTurn). log.link) (λ (log : LinkLog RxTurn). log.turns) watch.report.links watch.turns differ)
   pub first : ℕ
   pub answers : AreTrue rules.trust old.state first watch.turns
   pub texts : watch.texts ≡ changes_of rules.trust old.state watch.turns

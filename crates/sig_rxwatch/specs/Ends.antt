@@ -3,7 +3,7 @@ use Rattle.std.specs.Prelude.{◌≡◌, ℕ, List, Bool, is_some}
 use Rattle.sig_receiver.specs.Receiver.{received_of}
 use Rattle.sig_links.specs.Views.{DoorView}
 use Rattle.sig_rxnode.specs.declared.rules.RxRules.{RxRules}
-use Rattle.sig_rxlink.specs.declared.log.RxLinkLog.{RxLinkLog}
+use Rattle.sig_link.specs.declared.log.LinkLog.{LinkLog}
 use Rattle.sig_rxnode.specs.Holding.{IsHolding}
 use Rattle.sig_rxnode.specs.Node.{IsHistory, NodeView, base_of, files_told, since_of}
 use Rattle.sig_rxnode.specs.declared.turn.RxTurn.{RxTurn}
@@ -28,7 +28,7 @@ pub record IsOneHistory {D : Type 0} (told : D → Bool) (seen : D → List ℕ)
 
 -- the links of the report's logs came to the door, were served by these rules and went back; and the end is by why no further
 -- link was accepted, by the turns of the logs beside the node's, and by whether the node is broken
-abbrev pub WhyEnded : {D : Type 0} → RxRules → Report RxLinkLog → WatchEnd (NodeView D) RxLinkLog → DoorView → DoorView → Type 0
+abbrev pub WhyEnded : {D : Type 0} → RxRules → Report (LinkLog RxTurn) → WatchEnd (NodeView D) (LinkLog RxTurn) → DoorView → DoorView → Type 0
 WhyEnded {D} rules report end old new =
-    watch.WhyEnded (λ (t : RxTurn). t.link) (λ (log : RxLinkLog). log.link) (λ (log : RxLinkLog). log.turns) (λ (node : NodeView D). node.turns) (λ (node : NodeView D). is_some node.kept.store.broken_at)
+    watch.WhyEnded (λ (t : RxTurn). t.link) (λ (log : LinkLog RxTurn). log.link) (λ (log : LinkLog RxTurn). log.turns) (λ (node : NodeView D). node.turns) (λ (node : NodeView D). is_some node.kept.store.broken_at)
     (ServesOne rules) report end old new

@@ -2,14 +2,16 @@
 use Rattle.std.specs.Prelude.{◌≡◌, ℕ, List, [], None}
 use Rattle.sig_rxnode.specs.declared.rules.RxRules.{RxRules}
 use Rattle.sig_watch.specs.Sights.{Sight}
-use Rattle.sig_rxlink.specs.Moment.{desk_of, moment}
-use Rattle.sig_rxlink.specs.Serving as link
-use Rattle.sig_rxlink.specs.declared.log.RxLinkLog.{RxLinkLog}
+use Rattle.sig_link.specs.Moment.{desk_of, moment}
+use Rattle.sig_link.specs.Serving as link
+use Rattle.sig_link.specs.declared.log.LinkLog.{LinkLog}
+use Rattle.sig_rxend.specs.Receiver.{receiver}
+use Rattle.sig_rxnode.specs.declared.turn.RxTurn.{RxTurn}
 
 -- it was served under this number from its first byte on, by these settings, and its log has its turns and its end; what the
 -- node under its lock did is told by the log alone, and its side was asked nothing
-pub record ServesOne (rules : RxRules) (number : ℕ) (log : RxLinkLog) (came left : Sight) : Type 0 where
+pub record ServesOne (rules : RxRules) (number : ℕ) (log : LinkLog RxTurn) (came left : Sight) : Type 0 where
   pub numbered : log.link ≡ number
   pub kept : List ℕ
-  pub serves : link.Serves rules number log.end (moment [] came.line (desk_of None [])) (moment kept left.line (desk_of None log.turns))
+  pub serves : link.Serves receiver rules number log.end (moment [] came.line (desk_of came.side None [])) (moment kept left.line (desk_of left.side None log.turns))
   pub side : left.side ≡ came.side

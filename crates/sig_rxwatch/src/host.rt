@@ -1,10 +1,11 @@
 ghost use Rattle.sig_rxwatch.specs.Serving.{ServesOne};
 
 use crate::shared::{Locked, Opened, Shared};
+use sig_link::{LinkLog, serve_link};
 use sig_links::{Link, Side};
 use sig_outside::Disk;
-use sig_rxlink::{RxLinkLog, serve_link};
-use sig_rxnode::RxRules;
+use sig_rxend::RxEnd;
+use sig_rxnode::{RxRules, RxTurn};
 use sig_watch::Host;
 use std::alloc::Global;
 use std::sync::{Mutex, Wait};
@@ -20,7 +21,7 @@ pub struct RxHost<D: Disk, O: Opened> {
 }
 
 impl<D: Disk + Send, O: Opened> Host for RxHost<D, O> {
-    type Log = RxLinkLog;
+    type Log = LinkLog<RxTurn>;
 
     ghost use Rattle.sig_rxwatch.specs.Serving.{ServesOne};
 
@@ -31,9 +32,17 @@ impl<D: Disk + Send, O: Opened> Host for RxHost<D, O> {
         rt: &R,
         number: u32,
         link: &mut L,
-        _side: &mut S,
-    ) -> RxLinkLog {
+        side: &mut S,
+    ) -> LinkLog<RxTurn> {
         let mut taker = Locked { node: &self.node };
-        serve_link(self.alloc, rt, &mut taker, &self.rules, number, link)
+        serve_link::<RxEnd<Locked<D, O>>, R, L, S>(
+            self.alloc,
+            rt,
+            &mut taker,
+            &self.rules,
+            number,
+            link,
+            side,
+        )
     }
 }

@@ -1,7 +1,7 @@
 //! A watch of a receiver's server: the links that a door gives, each served in a thread of its own, over one node under a
 //! lock (RFC 8935, section 2; RFC 9112, section 9.3).
 //!
-//! It stands on `sig_watch` for how the links of a door are served side by side, on `sig_rxlink` for how one link is served,
+//! It stands on `sig_watch` for how the links of a door are served side by side, on `sig_link` and `sig_rxend` for how one link is served,
 //! on `sig_rxnode` for the node, which is what answers the calls of every link, and on `sig_watch` for how a watch ends.
 //!
 //! ```text
@@ -25,8 +25,8 @@ mod shared;
 mod threads;
 mod watching;
 
+pub use sig_link::LinkLog;
 pub use sig_logs::Differ;
-pub use sig_rxlink::RxLinkLog;
 pub use sig_serving::LinkEnd;
 pub use sig_watch::{Report, WatchEnd};
 pub use watching::serve_watch;

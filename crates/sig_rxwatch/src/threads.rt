@@ -1,8 +1,9 @@
 //! Reports move between threads, which the check of this call shows.
 
-use crate::{Report, RxLinkLog};
+use crate::{LinkLog, Report};
 use sig_json::crosses_threads;
+use sig_rxnode::RxTurn;
 
 fn types_cross() {
-    crosses_threads::<Report<RxLinkLog>>();
+    crosses_threads::<Report<LinkLog<RxTurn>>>();
 }

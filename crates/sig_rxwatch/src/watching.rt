@@ -9,11 +9,11 @@ ghost use Rattle.sig_watch.specs.Ends.{HandsBack, IfReport, IsReported};
 
 use crate::host::RxHost;
 use crate::shared::{Opened, Shared};
-use crate::{RxLinkLog, WatchEnd};
+use crate::{LinkLog, WatchEnd};
 use sig_json::Memory;
 use sig_links::Door;
 use sig_outside::Disk;
-use sig_rxnode::{RxNode, RxRules};
+use sig_rxnode::{RxNode, RxRules, RxTurn};
 use sig_watch::{Room, attend, end_of};
 use std::alloc::Global;
 use std::marker::Brand;
@@ -21,7 +21,7 @@ use std::sync::{Mutex, Wait};
 use std::thread::Threads;
 
 /// Serves the links that a door gives, `LINKS_PER_WATCH` at most, each in a thread of its own from when it is accepted, over a
-/// node that isn't broken. Each is served by `sig_rxlink::serve_link` under a number from 1 on in order of acceptance, with the
+/// node that isn't broken. Each is served by `sig_link::serve_link` under a number from 1 on in order of acceptance, with the
 /// node under its lock as its taker. After the door is shut or has failed no further link is accepted; once all have ended,
 /// each goes back to the door with its side. It may wait for the door, the links, the lock and the threads.
 ///
@@ -34,7 +34,7 @@ pub fn serve_watch<R: Threads + Wait + Sync, D: Disk + Send, A: Door>(
     rt: &R,
     node: RxNode<D>,
     door: &mut A,
-) -> WatchEnd<RxNode<D>, RxLinkLog>
+) -> WatchEnd<RxNode<D>, LinkLog<RxTurn>>
     requires { node.kept.store.broken_at ≡ None }
 
     // The base of the node that is handed back is the state of the node that was handed in; its rules stay.
@@ -66,7 +66,7 @@ pub fn serve_watch<R: Threads + Wait + Sync, D: Disk + Send, A: Door>(
 fn open<D: Disk, A: Door>(
     alloc: Global,
     node: &RxNode<D>,
-) -> Result<(RxRules, Room<A::L, A::S, RxLinkLog>), Memory>
+) -> Result<(RxRules, Room<A::L, A::S, LinkLog<RxTurn>>), Memory>
     ensures { IfOk result (λ opening. opening.0 ≡ node.now.rules) }
 {
     let rules = node.rules().copy(alloc)?;
@@ -81,8 +81,8 @@ fn watch<O: Opened + Send, R: Threads + Wait + Sync, D: Disk + Send, A: Door>(
     node: RxNode<D>,
     rules: RxRules,
     door: &mut A,
-    room: Room<A::L, A::S, RxLinkLog>,
-) -> WatchEnd<RxNode<D>, RxLinkLog>
+    room: Room<A::L, A::S, LinkLog<RxTurn>>,
+) -> WatchEnd<RxNode<D>, LinkLog<RxTurn>>
     requires opened { Some (told_before D.told node) ≡ O.told }
     ensures stays { IfReport result (λ now report. told_before D.told now ≡ told_before D.told node) }
     ensures kept { IfReport result (λ now report. IsHolding D.told D.seen D.may_leave now.kept × IsHistory now) }

@@ -6,7 +6,7 @@ use Rattle.sig_logs.specs.Logs.{Differs, HasTurns}
 use Rattle.sig_logs.specs.declared.difference.Differ.{Differ}
 use Rattle.sig_links.specs.Views.{DoorView}
 use Rattle.sig_terms.specs.declared.rules.Rules.{Rules}
-use Rattle.sig_txlink.specs.declared.log.LinkLog.{LinkLog}
+use Rattle.sig_link.specs.declared.log.LinkLog.{LinkLog}
 use Rattle.sig_txnode.specs.Node.{NodeView}
 use Rattle.sig_txnode.specs.Turns.{AreTrue, changes_of}
 use Rattle.sig_txnode.specs.declared.turn.Turn.{Turn}
@@ -17,13 +17,13 @@ use Rattle.sig_serve.specs.Door.{with_door}
 use Rattle.sig_serve.specs.Watches.{IsWatch, Watch}
 
 -- the turns of the logs beside the node's, by what is told of their difference
-abbrev pub Compares : List LinkLog → List Turn → Option Differ → Type 0
+abbrev pub Compares : List (LinkLog Turn) → List Turn → Option Differ → Type 0
 Compares logs turns differ = MatchOption differ
-    (HasTurns (λ (t : Turn). t.link) (λ (log : LinkLog). log.link) (λ (log : LinkLog). log.turns) logs turns)
-    (λ d. Differs (λ (t : Turn). t.link) (λ (log : LinkLog). log.link) (λ (log : LinkLog). log.turns) logs turns d)
+    (HasTurns (λ (t : Turn). t.link) (λ (log : LinkLog Turn). log.link) (λ (log : LinkLog Turn). log.turns) logs turns)
+    (λ d. Differs (λ (t : Turn). t.link) (λ (log : LinkLog Turn). log.link) (λ (log : LinkLog Turn). log.turns) logs turns d)
 
 -- what a watch says of the node and the door, as a watch of a run
-pub watch_is : {D : Type 0} (told : D → Bool) (seen : D → List ℕ) (may_leave : D → List ℕ → Type 0) (old now : NodeView D) (report : Report LinkLog) (end : WatchEnd (NodeView D) LinkLog) (door door' : DoorView)
+pub watch_is : {D : Type 0} (told : D → Bool) (seen : D → List ℕ) (may_leave : D → List ℕ → Type 0) (old now : NodeView D) (report : Report (LinkLog Turn)) (end : WatchEnd (NodeView D) (LinkLog Turn)) (door door' : DoorView)
     (differ : Option Differ) → Follows told old now → IsOneHistory told seen may_leave now → WhyEnded old.rules report end door door' → Compares report.links now.turns differ
     → (w : Watch) × (w.report ≡ report) × (w.differ ≡ differ) × IsWatch old.rules w (with_door told old door) (with_door told now door')
 watch_is told seen may_leave old now report end door door' differ follows history why compares =

@@ -6,7 +6,7 @@ use Rattle.sig_terms.specs.declared.rules.Rules.{Rules}
 use Rattle.sig_logs.specs.Logs.{Differs, HasTurns}
 use Rattle.sig_logs.specs.declared.difference.Differ.{Differ}
 use Rattle.sig_opening.specs.Watches.{Standing, Tells}
-use Rattle.sig_txlink.specs.declared.log.LinkLog.{LinkLog}
+use Rattle.sig_link.specs.declared.log.LinkLog.{LinkLog}
 use Rattle.sig_txnode.specs.declared.turn.Turn.{Turn}
 use Rattle.sig_txnode.specs.Turns.{AreTrue, changes_of}
 use Rattle.sig_txwatch.specs.Serving.{ServesOne}
@@ -17,7 +17,7 @@ use Rattle.sig_watch.specs.declared.report.Report.{Report}
 
 -- a watch: what it reports, the node's turns in order, the facts that these made, and what differs between the two, if anything
 pub record Watch : Type 0 where
-  pub report : Report LinkLog
+  pub report : Report (LinkLog Turn)
   pub turns : List Turn
   pub facts : List Fact
   pub differ : Option Differ
@@ -31,8 +31,8 @@ pub record IsWatch (rules : Rules) (watch : Watch) (old new : Standing Sum) : Ty
   pub links : Attends (ServesOne rules) stop watch.report.links old.door new.door
   pub shut : watch.report.shut ≡ is_shut stop
   pub compares : MatchOption watch.differ
-      (HasTurns (λ (t : Turn). t.link) (λ (log : LinkLog). log.link) (λ (log : LinkLog). log.turns) watch.report.links watch.turns)
-      (λ differ. Differs (λ (t : Turn). t.link) (λ (log : LinkLog). log.link) (λ (log : LinkLog). log.turns) watch.report.links watch.turns differ)
+      (HasTurns (λ (t : Turn). t.link) (λ (log : LinkLog Turn). log.link) (λ (log : LinkLog Turn). log.turns) watch.report.links watch.turns)
+      (λ differ. Differs (λ (t : Turn). t.link) (λ (log : LinkLog Turn). log.link) (λ (log : LinkLog Turn). log.turns) watch.report.links watch.turns differ)
   pub first : ℕ
   pub answers : AreTrue rules old.state first watch.turns
   pub facts : watch.facts ≡ changes_of rules old.state watch.turns

@@ -3,7 +3,7 @@ use Rattle.std.specs.Prelude.{◌≡◌, ℕ, List, Bool, is_some}
 use Rattle.sig_history.specs.Owed.{sum_of}
 use Rattle.sig_links.specs.Views.{DoorView}
 use Rattle.sig_terms.specs.declared.rules.Rules.{Rules}
-use Rattle.sig_txlink.specs.declared.log.LinkLog.{LinkLog}
+use Rattle.sig_link.specs.declared.log.LinkLog.{LinkLog}
 use Rattle.sig_txnode.specs.Node.{IsNode, NodeView, files_told}
 use Rattle.sig_txnode.specs.declared.turn.Turn.{Turn}
 use Rattle.sig_txwatch.specs.Serving.{ServesOne}
@@ -26,7 +26,7 @@ pub record IsOneHistory {D : Type 0} (told : D → Bool) (seen : D → List ℕ)
 
 -- the links of the report's logs came to the door, were served by these rules and went back; and the end is by why no further
 -- link was accepted, by the turns of the logs beside the node's, and by whether the node is broken
-abbrev pub WhyEnded : {D : Type 0} → Rules → Report LinkLog → WatchEnd (NodeView D) LinkLog → DoorView → DoorView → Type 0
+abbrev pub WhyEnded : {D : Type 0} → Rules → Report (LinkLog Turn) → WatchEnd (NodeView D) (LinkLog Turn) → DoorView → DoorView → Type 0
 WhyEnded {D} rules report end old new =
-    watch.WhyEnded (λ (t : Turn). t.link) (λ (log : LinkLog). log.link) (λ (log : LinkLog). log.turns) (λ (node : NodeView D). node.turns) (λ (node : NodeView D). is_some node.store.broken_at)
+    watch.WhyEnded (λ (t : Turn). t.link) (λ (log : LinkLog Turn). log.link) (λ (log : LinkLog Turn). log.turns) (λ (node : NodeView D). node.turns) (λ (node : NodeView D). is_some node.store.broken_at)
     (ServesOne rules) report end old new

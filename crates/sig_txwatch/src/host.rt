@@ -1,10 +1,12 @@
 ghost use Rattle.sig_txwatch.specs.Serving.{ServesOne};
 
 use crate::shared::{Locked, Opened, Shared};
+use sig_link::{LinkLog, serve_link};
 use sig_links::{Link, Side};
 use sig_outside::Disk;
 use sig_terms::Rules;
-use sig_txlink::{LinkLog, serve_link};
+use sig_txend::TxEnd;
+use sig_txnode::Turn;
 use sig_watch::Host;
 use std::alloc::Global;
 use std::sync::{Mutex, Wait};
@@ -20,7 +22,7 @@ pub struct TxHost<D: Disk, O: Opened> {
 }
 
 impl<D: Disk + Send, O: Opened> Host for TxHost<D, O> {
-    type Log = LinkLog;
+    type Log = LinkLog<Turn>;
 
     ghost use Rattle.sig_txwatch.specs.Serving.{ServesOne};
 
@@ -32,8 +34,16 @@ impl<D: Disk + Send, O: Opened> Host for TxHost<D, O> {
         number: u32,
         link: &mut L,
         side: &mut S,
-    ) -> LinkLog {
+    ) -> LinkLog<Turn> {
         let mut taker = Locked { node: &self.node };
-        serve_link(self.alloc, rt, &mut taker, &self.rules, number, link, side)
+        serve_link::<TxEnd<Locked<D, O>>, R, L, S>(
+            self.alloc,
+            rt,
+            &mut taker,
+            &self.rules,
+            number,
+            link,
+            side,
+        )
     }
 }

@@ -1,7 +1,7 @@
 //! A watch of a transmitter's server: the links that a door gives, each served in a thread of its own, over one node under a
 //! lock (OpenID Shared Signals Framework 1.0, sections 7 and 8).
 //!
-//! It stands on `sig_watch` for how the links of a door are served side by side, on `sig_txlink` for how one link is served,
+//! It stands on `sig_watch` for how the links of a door are served side by side, on `sig_link` and `sig_txend` for how one link is served,
 //! on `sig_txnode` for the node, which is what answers the calls of every link, and on `sig_watch` for how a watch ends.
 //!
 //! ```text
@@ -25,7 +25,8 @@ mod shared;
 mod threads;
 mod watching;
 
+pub use sig_link::LinkLog;
 pub use sig_logs::Differ;
-pub use sig_txlink::{LinkEnd, LinkLog};
+pub use sig_serving::LinkEnd;
 pub use sig_watch::{Report, WatchEnd};
 pub use watching::serve_watch;

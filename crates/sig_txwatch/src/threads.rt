@@ -2,7 +2,8 @@
 
 use crate::{LinkLog, Report};
 use sig_json::crosses_threads;
+use sig_txnode::Turn;
 
 fn types_cross() {
-    crosses_threads::<Report<LinkLog>>();
+    crosses_threads::<Report<LinkLog<Turn>>>();
 }

@@ -13,7 +13,7 @@ use sig_json::Memory;
 use sig_links::Door;
 use sig_outside::Disk;
 use sig_terms::Rules;
-use sig_txnode::TxNode;
+use sig_txnode::{Turn, TxNode};
 use sig_watch::{Room, attend, end_of};
 use std::alloc::Global;
 use std::marker::Brand;
@@ -21,7 +21,7 @@ use std::sync::{Mutex, Wait};
 use std::thread::Threads;
 
 /// Serves the links that a door gives, `LINKS_PER_WATCH` at most, each in a thread of its own from when it is accepted, over a
-/// node that isn't broken. Each is served by `sig_txlink::serve_link` under a number from 1 on in order of acceptance, with the
+/// node that isn't broken. Each is served by `sig_link::serve_link` under a number from 1 on in order of acceptance, with the
 /// node under its lock as its taker. After the door is shut or has failed no further link is accepted; once all have ended,
 /// each goes back to the door with its side. It may wait for the door, the links, the lock and the threads.
 ///
@@ -34,7 +34,7 @@ pub fn serve_watch<R: Threads + Wait + Sync, D: Disk + Send, A: Door>(
     rt: &R,
     node: TxNode<D>,
     door: &mut A,
-) -> WatchEnd<TxNode<D>, LinkLog>
+) -> WatchEnd<TxNode<D>, LinkLog<Turn>>
     requires { node.store.broken_at ≡ None }
 
     // The base of the node that is handed back is the state of the node that was handed in; its rules stay.
@@ -64,7 +64,7 @@ pub fn serve_watch<R: Threads + Wait + Sync, D: Disk + Send, A: Door>(
 fn open<D: Disk, A: Door>(
     alloc: Global,
     node: &TxNode<D>,
-) -> Result<(Rules, Room<A::L, A::S, LinkLog>), Memory>
+) -> Result<(Rules, Room<A::L, A::S, LinkLog<Turn>>), Memory>
     ensures { IfOk result (λ opening. opening.0 ≡ node.now.rules) }
 {
     let rules = node.rules().copy(alloc)?;
@@ -79,8 +79,8 @@ fn watch<O: Opened + Send, R: Threads + Wait + Sync, D: Disk + Send, A: Door>(
     node: TxNode<D>,
     rules: Rules,
     door: &mut A,
-    room: Room<A::L, A::S, LinkLog>,
-) -> WatchEnd<TxNode<D>, LinkLog>
+    room: Room<A::L, A::S, LinkLog<Turn>>,
+) -> WatchEnd<TxNode<D>, LinkLog<Turn>>
     requires opened { Some (told_before D.told node) ≡ O.told }
     ensures stays { IfReport result (λ now report. told_before D.told now ≡ told_before D.told node) }
     ensures kept { IfReport result (λ now report. IsNode D.told D.seen D.may_leave now) }

@@ -1,7 +1,7 @@
 //! The program `sig_visits`: visits of links at a receiver, and what it fetches, over links in memory, by lines of text (RFC 8935,
 //! section 2; RFC 8936, section 2).
 //!
-//!     line -> bytes of a link     -> `sig_rxlink::serve_link` -> how it ends, and the bytes written to it
+//!     line -> bytes of a link     -> `sig_link::serve_link` -> how it ends, and the bytes written to it
 //!          -> bytes of responses  -> `sig_fetch::fetch`       -> what was fetched, and the bytes sent for each
 //!
 //! It is no part of the product. It says byte for byte what a script over sockets says by statuses. Its words are

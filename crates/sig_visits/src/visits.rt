@@ -5,9 +5,11 @@ use crate::telling::{brought, visited};
 use sig_fetch::fetch;
 use sig_json::{Bytes, Items, Memory};
 use sig_lines::{Answering, bare, cut_at_space, decoded, number_in, said};
+use sig_link::serve_link;
 use sig_memory_links::{MemLink, MemSide};
-use sig_rxlink::serve_link;
-use sig_rxnode::{Peer, RxRules};
+use sig_outside::MemDisk;
+use sig_rxend::RxEnd;
+use sig_rxnode::{Peer, RxNode, RxRules};
 use sig_rxsettings::{RxSettings, rx_settings};
 use sig_settings::SettingsFault;
 use std::alloc::Global;
@@ -61,7 +63,10 @@ impl<'a, W: Wait> Visits<'a, W> {
         };
         let mut link = MemLink::new(self.alloc, bytes, Items::of(Vec::new(self.alloc)));
         let mut node = node_over(self.alloc, files, rules)?;
-        let log = serve_link(self.alloc, self.wait, &mut node, rules, 1, &mut link);
+        let mut side = side_over(self.alloc, Items::of(Vec::new(self.alloc)));
+        let log = serve_link::<RxEnd<RxNode<MemDisk>>, W, MemLink, MemSide>(
+            self.alloc, self.wait, &mut node, rules, 1, &mut link, &mut side,
+        );
         self.files = Some(files_of(node));
         Ok(Some(visited(self.alloc, log.end, &link)?))
     }
@@ -103,13 +108,18 @@ fn fetched_by(
     links: Items<MemLink>,
     rounds: u64,
 ) -> Result<(Files, Bytes), Memory> {
-    let nothing = Items::of(Vec::new(alloc));
-    let mut side = MemSide::new(alloc, links, nothing, Items::of(Vec::new(alloc)));
+    let mut side = side_over(alloc, links);
     let mut node = node_over(alloc, files, rules)?;
     let fetched = fetch(alloc, &mut node, &mut side, peer, rounds);
     let files = files_of(node);
     let answer = brought(alloc, &fetched, side.back())?;
     Ok((files, answer))
+}
+
+// A side whose dials give these links, and none fails.
+fn side_over(alloc: Global, links: Items<MemLink>) -> MemSide {
+    let nothing = Items::of(Vec::new(alloc));
+    MemSide::new(alloc, links, nothing, Items::of(Vec::new(alloc)))
 }
 
 // The links that give the bytes of these words, one space between them.

@@ -1,6 +1,0 @@
-use Rattle.sig_rxlink.proofs.EndLemmas.{serves_first}
-use Rattle.sig_rxlink.proofs.serving.serve_link.Goals as goal
-
-pub returns-clause-serves : goal.returns-clause-serves
-returns-clause-serves g c =
-    serves_first _ _ _ _ _ _ _ _ _ _ _ _ _ c.start-work.ensures.link c.start-work.ensures.kept c.start-work.ensures.turns c.of.ensures c.serve_all-end.ensures.serves
