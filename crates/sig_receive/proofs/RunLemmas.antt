@@ -1,6 +1,6 @@
 -- One watch of a receiver.
 use Rattle.std.proofs.Common.{◌≡◌, ◌∙◌, ℕ, Bool, List, Option, refl, ap, subst}
-use Rattle.std.specs.Prelude.{MatchOption}
+use Rattle.std.specs.Prelude.{MatchOption, is_some}
 use Rattle.sig_receiver.specs.Receiver.{Received, received_of}
 use Rattle.sig_logs.specs.Logs.{Differs, HasTurns}
 use Rattle.sig_logs.specs.declared.difference.Differ.{Differ}
@@ -10,7 +10,9 @@ use Rattle.sig_link.specs.declared.log.LinkLog.{LinkLog}
 use Rattle.sig_rxnode.specs.Node.{NodeView, base_of, since_of}
 use Rattle.sig_rxnode.specs.Turns.{AreTrue, changes_of}
 use Rattle.sig_rxnode.specs.declared.turn.RxTurn.{RxTurn}
-use Rattle.sig_rxwatch.specs.Ends.{Follows, IsOneHistory, WhyEnded}
+use Rattle.sig_rxend.specs.Ends.{Follows, IsOneHistory}
+use Rattle.sig_rxend.specs.Serving.{ServesOne}
+use Rattle.sig_watch.specs.Ends as watch
 use Rattle.sig_watch.specs.declared.report.Report.{Report}
 use Rattle.sig_watch.specs.declared.report.WatchEnd.{WatchEnd}
 use Rattle.sig_receive.specs.Door.{with_door}
@@ -21,6 +23,12 @@ abbrev pub Compares : List (LinkLog RxTurn) → List RxTurn → Option Differ �
 Compares logs turns differ = MatchOption differ
     (HasTurns (λ (t : RxTurn). t.link) (λ (log : LinkLog RxTurn). log.link) (λ (log : LinkLog RxTurn). log.turns) logs turns)
     (λ d. Differs (λ (t : RxTurn). t.link) (λ (log : LinkLog RxTurn). log.link) (λ (log : LinkLog RxTurn). log.turns) logs turns d)
+
+-- why a watch ended, by the turns of its logs beside the node's
+abbrev pub WhyEnded : {D : Type 0} → RxRules → Report (LinkLog RxTurn) → WatchEnd (NodeView D) (LinkLog RxTurn) → DoorView → DoorView → Type 0
+WhyEnded {D} rules report end old new =
+    watch.WhyEnded (λ (t : RxTurn). t.link) (λ (log : LinkLog RxTurn). log.link) (λ (log : LinkLog RxTurn). log.turns) (λ (node : NodeView D). node.turns) (λ (node : NodeView D). is_some node.kept.store.broken_at)
+    (ServesOne rules) report end old new
 
 -- what a watch says of the node and the door, as a watch of a run
 pub watch_is : {D : Type 0} (told : D → Bool) (seen : D → List ℕ) (may_leave : D → List ℕ → Type 0) (old now : NodeView D) (report : Report (LinkLog RxTurn)) (end : WatchEnd (NodeView D) (LinkLog RxTurn)) (door door' : DoorView)

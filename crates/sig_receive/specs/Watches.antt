@@ -8,7 +8,7 @@ use Rattle.sig_opening.specs.Watches.{Standing, Tells}
 use Rattle.sig_link.specs.declared.log.LinkLog.{LinkLog}
 use Rattle.sig_rxnode.specs.declared.turn.RxTurn.{RxTurn}
 use Rattle.sig_rxnode.specs.Turns.{AreTrue, changes_of}
-use Rattle.sig_rxwatch.specs.Serving.{ServesOne}
+use Rattle.sig_rxend.specs.Serving.{ServesOne}
 use Rattle.sig_serving.specs.Stops.{is_shut}
 use Rattle.sig_serving.specs.declared.stop.Stop.{Stop}
 use Rattle.sig_watch.specs.Attending.{Attends}

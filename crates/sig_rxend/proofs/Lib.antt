@@ -1,1 +1,2 @@
 pub mod SideLemmas
+pub mod WatchLemmas

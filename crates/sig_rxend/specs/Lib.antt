@@ -2,3 +2,5 @@ pub mod Grown
 pub mod Laws
 pub mod Receiver
 pub mod Turning
+pub mod Ends
+pub mod Serving

@@ -1,6 +1,6 @@
 -- One watch of a transmitter.
 use Rattle.std.proofs.Common.{◌≡◌, ◌∙◌, ℕ, Bool, List, Option, refl, ap, subst}
-use Rattle.std.specs.Prelude.{MatchOption}
+use Rattle.std.specs.Prelude.{MatchOption, is_some}
 use Rattle.sig_history.specs.Owed.{Sum, sum_of}
 use Rattle.sig_logs.specs.Logs.{Differs, HasTurns}
 use Rattle.sig_logs.specs.declared.difference.Differ.{Differ}
@@ -10,7 +10,9 @@ use Rattle.sig_link.specs.declared.log.LinkLog.{LinkLog}
 use Rattle.sig_txnode.specs.Node.{NodeView}
 use Rattle.sig_txnode.specs.Turns.{AreTrue, changes_of}
 use Rattle.sig_txnode.specs.declared.turn.Turn.{Turn}
-use Rattle.sig_txwatch.specs.Ends.{Follows, IsOneHistory, WhyEnded}
+use Rattle.sig_txend.specs.Ends.{Follows, IsOneHistory}
+use Rattle.sig_txend.specs.Serving.{ServesOne}
+use Rattle.sig_watch.specs.Ends as watch
 use Rattle.sig_watch.specs.declared.report.Report.{Report}
 use Rattle.sig_watch.specs.declared.report.WatchEnd.{WatchEnd}
 use Rattle.sig_serve.specs.Door.{with_door}
@@ -21,6 +23,12 @@ abbrev pub Compares : List (LinkLog Turn) → List Turn → Option Differ → Ty
 Compares logs turns differ = MatchOption differ
     (HasTurns (λ (t : Turn). t.link) (λ (log : LinkLog Turn). log.link) (λ (log : LinkLog Turn). log.turns) logs turns)
     (λ d. Differs (λ (t : Turn). t.link) (λ (log : LinkLog Turn). log.link) (λ (log : LinkLog Turn). log.turns) logs turns d)
+
+-- why a watch ended, by the turns of its logs beside the node's
+abbrev pub WhyEnded : {D : Type 0} → Rules → Report (LinkLog Turn) → WatchEnd (NodeView D) (LinkLog Turn) → DoorView → DoorView → Type 0
+WhyEnded {D} rules report end old new =
+    watch.WhyEnded (λ (t : Turn). t.link) (λ (log : LinkLog Turn). log.link) (λ (log : LinkLog Turn). log.turns) (λ (node : NodeView D). node.turns) (λ (node : NodeView D). is_some node.store.broken_at)
+    (ServesOne rules) report end old new
 
 -- what a watch says of the node and the door, as a watch of a run
 pub watch_is : {D : Type 0} (told : D → Bool) (seen : D → List ℕ) (may_leave : D → List ℕ → Type 0) (old now : NodeView D) (report : Report (LinkLog Turn)) (end : WatchEnd (NodeView D) (LinkLog Turn)) (door door' : DoorView)

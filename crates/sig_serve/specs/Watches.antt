@@ -9,7 +9,7 @@ use Rattle.sig_opening.specs.Watches.{Standing, Tells}
 use Rattle.sig_link.specs.declared.log.LinkLog.{LinkLog}
 use Rattle.sig_txnode.specs.declared.turn.Turn.{Turn}
 use Rattle.sig_txnode.specs.Turns.{AreTrue, changes_of}
-use Rattle.sig_txwatch.specs.Serving.{ServesOne}
+use Rattle.sig_txend.specs.Serving.{ServesOne}
 use Rattle.sig_serving.specs.Stops.{is_shut}
 use Rattle.sig_serving.specs.declared.stop.Stop.{Stop}
 use Rattle.sig_watch.specs.Attending.{Attends}

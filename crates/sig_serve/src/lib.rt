@@ -8,7 +8,7 @@
 //! ```
 //!
 //! It stands on `sig_opening` for what is opened and given back, on `sig_txsettings` for the settings, on `sig_txnode` for the
-//! node over a store, and on `sig_txwatch` for a watch. Promised: each end has its cause, by the outside's counts or by what
+//! node over a store, and on `sig_txend` for a watch. Promised: each end has its cause, by the outside's counts or by what
 //! the settings and the store tell; what is opened is given back before the end, on every path; and where the store is told,
 //! what is put back tells what it told before with the facts of this run, which are those of the turns of its links. Left out:
 //! that links are served at the same time, which no contract can say, and that a link comes.

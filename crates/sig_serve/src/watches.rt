@@ -9,8 +9,9 @@ ghost use Rattle.sig_serve.specs.Watches.{IsWatch, tells_of};
 use crate::ServeEnd;
 use sig_links::Door;
 use sig_outside::Disk;
+use sig_txend::Transmitter;
 use sig_txnode::TxNode;
-use sig_txwatch::{WatchEnd, serve_watch};
+use sig_watch::{WatchEnd, serve_watch};
 use std::alloc::Global;
 use std::sync::Wait;
 use std::thread::Threads;
@@ -76,7 +77,7 @@ fn run_watch<R: Threads + Wait + Sync, D: Disk + Send, A: Door>(
     ensures breaks { IfSome result.end (λ end. BreaksAfter end result.node.store.broken_at) }
     ensures network { IfSome result.end (λ end. end ≡ ServeEnd.NetworkFailed → 0 < (A.view door.new).faults) }
 {
-    match serve_watch(alloc, rt, node, door) {
+    match serve_watch::<Transmitter<D>, R, A>(alloc, rt, node, door) {
         WatchEnd::Done { node, report } => Watched {
             node,
             end: end_after(report.shut),

@@ -1,3 +1,5 @@
 pub mod Following
 pub mod Transmitter
 pub mod Turning
+pub mod Ends
+pub mod Serving

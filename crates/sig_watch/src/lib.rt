@@ -1,21 +1,23 @@
-//! The links of a watch, each served in a thread of its own from when it is accepted (RFC 9112, section 9.3), and how the watch
-//! ends: what its links came to, beside the node that they asked.
+//! A watch of a node: the links that a door gives, each served in a thread of its own from when it is accepted, over one node
+//! under a lock (RFC 9112, section 9.3); and how the watch ends: what its links came to, beside the node that they asked.
 //!
 //! It stands on `sig_links` for doors, links and sides, on `sig_serving` for what is seen of them, and on `sig_logs` for the
-//! comparison of the links' logs with the node's turns.
+//! comparison of the links' logs with the node's turns. What is watched, be it a transmitter or a receiver, is an instance of
+//! `Served`, which says how its links are served.
 //!
 //! ```text
-//!     door --accept--> link 1, its side -> a thread: the host serves it -.
-//!          --accept--> link 2, its side -> a thread: the host serves it -+-> each ended -> door, in order of acceptance
-//!          ..                                                            |
-//!          shut, a fault, or as many as a watch serves -----------------'
-//!     the node, the logs, why no further link was accepted -> Disagree, Broken, DoorFault or Done, with a report
+//!     node -> rules, room -> lock <-- link 1 in a thread <-- door
+//!                                 <-- link 2 in a thread <-- door
+//!                                 ..                             shut, a fault, or as many as a watch serves
+//!          each ended -> door, in order of acceptance
+//!          <- the node from under the lock, its turns beside the logs -> Disagree, Broken, DoorFault or Done, with a report
 //! ```
 //!
-//! Promised: links are numbered from 1 in order of acceptance; each was served by the host under its number and ended; once
-//! all were, each went back to the door with its side, in that order; the logs stand in the same order; and why no further
-//! link was accepted is told. Room is taken before the first link is accepted, so serving them takes no memory here. The end is
-//! by the comparison first, then by the node, and then by the door; and the report has the logs.
+//! Promised: the node that is handed back follows the node that was handed in, and is one history; links are numbered from 1 in
+//! order of acceptance; each was served under its number and ended; once all were, each went back to the door with its side, in
+//! that order; the logs stand in the same order; and why no further link was accepted is told. Room is taken before the first
+//! link is accepted, so serving them takes no memory here. The end is by the comparison first, then by the node, and then by
+//! the door; and the report has the logs.
 //!
 //! Left out: that threads run at the same time, and when; how links are served, and what the node answers. Where the system
 //! makes no thread, a link is served once no further link is accepted.
@@ -27,10 +29,16 @@ mod ending;
 mod host;
 mod report;
 mod room;
+mod served;
+mod shared;
 mod visit;
+mod watching;
 
 pub use attending::{Attended, attend};
 pub use ending::end_of;
 pub use host::Host;
 pub use report::{Report, WatchEnd};
 pub use room::Room;
+pub use served::Served;
+pub use shared::{Lasting, Opened, Shared};
+pub use watching::serve_watch;

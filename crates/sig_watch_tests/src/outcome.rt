@@ -1,7 +1,7 @@
 //! What a watch came to.
 
 use sig_json::Bytes;
-use sig_txwatch::{Report, WatchEnd};
+use sig_watch::{Report, WatchEnd};
 
 /// The node of a watch, and the report of one that is done.
 pub fn outcome_of<N, G: Drop>(end: WatchEnd<N, G>) -> (N, Option<Report<G>>) {

@@ -1,0 +1,39 @@
+ghost use Rattle.std.specs.Prelude.{◌≡◌, IfOk};
+ghost use Rattle.sig_rxnode.specs.Answers.{FitsPage, IsAnswerTo};
+
+use crate::Receiver;
+use sig_outside::Disk;
+use sig_rxnode::{RxAnswer, RxCall, RxFault, RxNode, RxTaker};
+use sig_watch::{Opened, Shared};
+use std::sync::{Mutex, Wait};
+
+/// What asks a node under its lock. It tells nothing, since a lock hides what it holds.
+#[derive(Drop)]
+pub struct Locked<'a, D: Disk, O: Opened<RxNode<D>>> {
+    /// The node.
+    pub node: &'a Mutex<Shared<Receiver<D>, O>>,
+}
+
+impl<'a, D: Disk, O: Opened<RxNode<D>>> RxTaker for Locked<'a, D, O> {
+    ghost use Rattle.std.specs.Prelude.{None};
+
+    ghost told = { λ l. None };
+
+    fn turn<R: Wait>(&mut self, rt: &R, link: u32, call: &RxCall) -> Result<RxAnswer, RxFault> {
+        let mut shared = self.node.lock(rt);
+        turn(rt, &mut *shared, link, call)
+    }
+}
+
+// Answers a call of a link, as the node's next turn.
+fn turn<R: Wait, D: Disk, O: Opened<RxNode<D>>>(
+    rt: &R,
+    shared: &mut Shared<Receiver<D>, O>,
+    link: u32,
+    call: &RxCall,
+) -> Result<RxAnswer, RxFault>
+    ensures page { IfOk result FitsPage }
+    ensures row { IfOk result (λ answer. IsAnswerTo call.now answer) }
+{
+    shared.node.turn(rt, link, call)
+}

@@ -1,0 +1,68 @@
+use crate::{Locked, RxEnd};
+use sig_json::Memory;
+use sig_link::{LinkLog, serve_link};
+use sig_links::{Link, Side};
+use sig_outside::Disk;
+use sig_rxnode::{RxNode, RxRules, RxTurn};
+use sig_watch::{Lasting, Opened, Served, Shared};
+use std::alloc::Global;
+use std::marker::PhantomData;
+use std::sync::{Mutex, Wait};
+
+/// A receiver whose store stands on disks of this kind, as a watch serves it.
+pub struct Receiver<D: Disk> {
+    disks: PhantomData<D>,
+}
+
+impl<D: Disk> Lasting for Receiver<D> {
+    ghost use Rattle.std.proofs.Props.{props};
+    ghost use Rattle.sig_rxend.specs.Ends.{Follows};
+
+    type Node = RxNode<D>;
+
+    ghost follows = { Follows D.told };
+
+    ghost follows_once = { λ before now. Prim.hlevel props };
+}
+
+impl<D: Disk> Served for Receiver<D> {
+    ghost use Rattle.sig_rxend.specs.Ends.{IsOneHistory};
+    ghost use Rattle.sig_rxend.specs.Serving.{ServesOne};
+
+    type Rules = RxRules;
+
+    type Log = LinkLog<RxTurn>;
+
+    ghost rules_of = { λ n. n.rules };
+
+    ghost is_history = { IsOneHistory D.told D.seen D.may_leave };
+
+    ghost serves = { ServesOne };
+
+    fn rules(alloc: Global, node: &RxNode<D>) -> Result<RxRules, Memory> {
+        node.rules().copy(alloc)
+    }
+
+    fn open_watch(node: &mut RxNode<D>) {
+        // That the base is the state rests on what holds of every node.
+        let _ = node.broken_at();
+        node.open_watch();
+    }
+
+    fn recalls(node: &RxNode<D>) {
+        let _ = node.broken_at();
+    }
+
+    fn serve<O: Opened<RxNode<D>>, R: Wait, L: Link, S: Side>(
+        alloc: Global,
+        rt: &R,
+        node: &Mutex<Shared<Receiver<D>, O>>,
+        rules: &RxRules,
+        number: u32,
+        link: &mut L,
+        side: &mut S,
+    ) -> LinkLog<RxTurn> {
+        let mut taker = Locked { node };
+        serve_link::<RxEnd<Locked<D, O>>, R, L, S>(alloc, rt, &mut taker, rules, number, link, side)
+    }
+}

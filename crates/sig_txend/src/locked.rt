@@ -1,0 +1,48 @@
+ghost use Rattle.std.specs.Prelude.{◌≡◌, IfOk};
+ghost use Rattle.sig_calls.specs.Proper.{IsProperCall};
+ghost use Rattle.sig_txnode.specs.Answering.{IsAnswerTo, time_used};
+
+use crate::Transmitter;
+use sig_outside::Disk;
+use sig_terms::{Answer, Call};
+use sig_txnode::{Taker, TxFault, TxNode};
+use sig_watch::{Opened, Shared};
+use std::sync::{Mutex, Wait};
+
+/// What asks a node under its lock. It tells nothing, since a lock hides what it holds.
+#[derive(Drop)]
+pub struct Locked<'a, D: Disk, O: Opened<TxNode<D>>> {
+    /// The node.
+    pub node: &'a Mutex<Shared<Transmitter<D>, O>>,
+}
+
+impl<'a, D: Disk, O: Opened<TxNode<D>>> Taker for Locked<'a, D, O> {
+    ghost use Rattle.std.specs.Prelude.{None};
+
+    ghost told = { λ l. None };
+
+    fn turn<R: Wait>(
+        &mut self,
+        rt: &R,
+        link: u32,
+        call: &Call,
+        now: u64,
+    ) -> Result<Answer, TxFault> {
+        let mut shared = self.node.lock(rt);
+        turn(rt, &mut *shared, link, call, now)
+    }
+}
+
+// Answers a call of a link, as the node's next turn.
+fn turn<R: Wait, D: Disk, O: Opened<TxNode<D>>>(
+    rt: &R,
+    shared: &mut Shared<Transmitter<D>, O>,
+    link: u32,
+    call: &Call,
+    now: u64,
+) -> Result<Answer, TxFault>
+    requires { IsProperCall call.now }
+    ensures { IfOk result (λ answer. IsAnswerTo call.now (time_used now) answer) }
+{
+    shared.node.turn(rt, link, call, now)
+}

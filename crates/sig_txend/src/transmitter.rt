@@ -1,0 +1,67 @@
+use crate::{Locked, TxEnd};
+use sig_json::Memory;
+use sig_link::{LinkLog, serve_link};
+use sig_links::{Link, Side};
+use sig_outside::Disk;
+use sig_terms::Rules;
+use sig_txnode::{Turn, TxNode};
+use sig_watch::{Lasting, Opened, Served, Shared};
+use std::alloc::Global;
+use std::marker::PhantomData;
+use std::sync::{Mutex, Wait};
+
+/// A transmitter whose store stands on disks of this kind, as a watch serves it.
+pub struct Transmitter<D: Disk> {
+    disks: PhantomData<D>,
+}
+
+impl<D: Disk> Lasting for Transmitter<D> {
+    ghost use Rattle.std.proofs.Props.{props};
+    ghost use Rattle.sig_txend.specs.Ends.{Follows};
+
+    type Node = TxNode<D>;
+
+    ghost follows = { Follows D.told };
+
+    ghost follows_once = { λ before now. Prim.hlevel props };
+}
+
+impl<D: Disk> Served for Transmitter<D> {
+    ghost use Rattle.sig_txend.specs.Ends.{IsOneHistory};
+    ghost use Rattle.sig_txend.specs.Serving.{ServesOne};
+
+    type Rules = Rules;
+
+    type Log = LinkLog<Turn>;
+
+    ghost rules_of = { λ n. n.rules };
+
+    ghost is_history = { IsOneHistory D.told D.seen D.may_leave };
+
+    ghost serves = { ServesOne };
+
+    fn rules(alloc: Global, node: &TxNode<D>) -> Result<Rules, Memory> {
+        node.rules().copy(alloc)
+    }
+
+    fn open_watch(node: &mut TxNode<D>) {
+        node.open_watch();
+    }
+
+    fn recalls(node: &TxNode<D>) {
+        let _ = node.broken_at();
+    }
+
+    fn serve<O: Opened<TxNode<D>>, R: Wait, L: Link, S: Side>(
+        alloc: Global,
+        rt: &R,
+        node: &Mutex<Shared<Transmitter<D>, O>>,
+        rules: &Rules,
+        number: u32,
+        link: &mut L,
+        side: &mut S,
+    ) -> LinkLog<Turn> {
+        let mut taker = Locked { node };
+        serve_link::<TxEnd<Locked<D, O>>, R, L, S>(alloc, rt, &mut taker, rules, number, link, side)
+    }
+}
