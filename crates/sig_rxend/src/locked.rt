@@ -4,17 +4,17 @@ ghost use Rattle.sig_rxnode.specs.Answers.{FitsPage, IsAnswerTo};
 use crate::Receiver;
 use sig_outside::Disk;
 use sig_rxnode::{RxAnswer, RxCall, RxFault, RxNode, RxTaker};
-use sig_watch::{Opened, Shared};
+use sig_watch::{Lasting, Opened, Shared};
 use std::sync::{Mutex, Wait};
 
 /// What asks a node under its lock. It tells nothing, since a lock hides what it holds.
 #[derive(Drop)]
-pub struct Locked<'a, D: Disk, O: Opened<RxNode<D>>> {
+pub struct Locked<'a, E: Lasting, O: Opened<E::Node>> {
     /// The node.
-    pub node: &'a Mutex<Shared<Receiver<D>, O>>,
+    pub node: &'a Mutex<Shared<E, O>>,
 }
 
-impl<'a, D: Disk, O: Opened<RxNode<D>>> RxTaker for Locked<'a, D, O> {
+impl<'a, D: Disk, O: Opened<RxNode<D>>> RxTaker for Locked<'a, Receiver<D>, O> {
     ghost use Rattle.std.specs.Prelude.{None};
 
     ghost told = { λ l. None };

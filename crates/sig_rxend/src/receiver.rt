@@ -63,6 +63,8 @@ impl<D: Disk> Served for Receiver<D> {
         side: &mut S,
     ) -> LinkLog<RxTurn> {
         let mut taker = Locked { node };
-        serve_link::<RxEnd<Locked<D, O>>, R, L, S>(alloc, rt, &mut taker, rules, number, link, side)
+        serve_link::<RxEnd<Locked<Receiver<D>, O>>, R, L, S>(
+            alloc, rt, &mut taker, rules, number, link, side,
+        )
     }
 }

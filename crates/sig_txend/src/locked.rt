@@ -6,17 +6,17 @@ use crate::Transmitter;
 use sig_outside::Disk;
 use sig_terms::{Answer, Call};
 use sig_txnode::{Taker, TxFault, TxNode};
-use sig_watch::{Opened, Shared};
+use sig_watch::{Lasting, Opened, Shared};
 use std::sync::{Mutex, Wait};
 
 /// What asks a node under its lock. It tells nothing, since a lock hides what it holds.
 #[derive(Drop)]
-pub struct Locked<'a, D: Disk, O: Opened<TxNode<D>>> {
+pub struct Locked<'a, E: Lasting, O: Opened<E::Node>> {
     /// The node.
-    pub node: &'a Mutex<Shared<Transmitter<D>, O>>,
+    pub node: &'a Mutex<Shared<E, O>>,
 }
 
-impl<'a, D: Disk, O: Opened<TxNode<D>>> Taker for Locked<'a, D, O> {
+impl<'a, D: Disk, O: Opened<TxNode<D>>> Taker for Locked<'a, Transmitter<D>, O> {
     ghost use Rattle.std.specs.Prelude.{None};
 
     ghost told = { λ l. None };

@@ -62,6 +62,8 @@ impl<D: Disk> Served for Transmitter<D> {
         side: &mut S,
     ) -> LinkLog<Turn> {
         let mut taker = Locked { node };
-        serve_link::<TxEnd<Locked<D, O>>, R, L, S>(alloc, rt, &mut taker, rules, number, link, side)
+        serve_link::<TxEnd<Locked<Transmitter<D>, O>>, R, L, S>(
+            alloc, rt, &mut taker, rules, number, link, side,
+        )
     }
 }
