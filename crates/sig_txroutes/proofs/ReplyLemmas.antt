@@ -11,26 +11,26 @@ same_metadata : (one other : Rules) → one.issuer ≡ other.issuer → one.base
 same_metadata one other issuer base defaults = rw (issuer, base, defaults) refl
 
 pub tells_no_secrets : TellsNoSecrets
-tells_no_secrets answer.Meta one other no issuer base defaults = ap (λ d. telling 200 d) (same_metadata one other issuer base defaults)
-tells_no_secrets (answer.Made conf) one other no issuer base defaults = rw base refl
-tells_no_secrets (answer.Conf conf) one other no issuer base defaults = rw base refl
-tells_no_secrets (answer.Confs confs) one other no issuer base defaults = ap (λ b. telling 200 (confs_data confs b)) base
-tells_no_secrets answer.Gone one other no issuer base defaults = refl
-tells_no_secrets (answer.State stream status reason token) one other no issuer base defaults = refl
-tells_no_secrets answer.Added one other no issuer base defaults = refl
-tells_no_secrets answer.Removed one other no issuer base defaults = refl
-tells_no_secrets (answer.Asked stream number) one other no issuer base defaults = refl
-tells_no_secrets (answer.Sets tokens more) one other no issuer base defaults = absurd (no (tokens, more, refl))
-tells_no_secrets (answer.Published store_id tokens) one other no issuer base defaults = refl
-tells_no_secrets (answer.Delivering stream) one other no issuer base defaults = refl
-tells_no_secrets (answer.Handed tokens) one other no issuer base defaults = refl
-tells_no_secrets (answer.Settled count) one other no issuer base defaults = refl
-tells_no_secrets answer.NotFound one other no issuer base defaults = refl
-tells_no_secrets answer.TooMany one other no issuer base defaults = refl
-tells_no_secrets answer.Conflict one other no issuer base defaults = refl
-tells_no_secrets answer.Disabled one other no issuer base defaults = refl
-tells_no_secrets (answer.Early until) one other no issuer base defaults = refl
-tells_no_secrets (answer.Long size) one other no issuer base defaults = refl
+tells_no_secrets answer.Meta one other isnt issuer base defaults = ap (λ d. telling 200 d) (same_metadata one other issuer base defaults)
+tells_no_secrets (answer.Made conf) one other isnt issuer base defaults = rw base refl
+tells_no_secrets (answer.Conf conf) one other isnt issuer base defaults = rw base refl
+tells_no_secrets (answer.Confs confs) one other isnt issuer base defaults = ap (λ b. telling 200 (confs_data confs b)) base
+tells_no_secrets answer.Gone one other isnt issuer base defaults = refl
+tells_no_secrets (answer.State stream status reason token) one other isnt issuer base defaults = refl
+tells_no_secrets answer.Added one other isnt issuer base defaults = refl
+tells_no_secrets answer.Removed one other isnt issuer base defaults = refl
+tells_no_secrets (answer.Asked stream number) one other isnt issuer base defaults = refl
+tells_no_secrets (answer.Sets tokens more) one other isnt issuer base defaults = absurd (isnt (tokens, more, refl))
+tells_no_secrets (answer.Published store_id tokens) one other isnt issuer base defaults = refl
+tells_no_secrets (answer.Delivering stream) one other isnt issuer base defaults = refl
+tells_no_secrets (answer.Handed tokens) one other isnt issuer base defaults = refl
+tells_no_secrets (answer.Settled count) one other isnt issuer base defaults = refl
+tells_no_secrets answer.NotFound one other isnt issuer base defaults = refl
+tells_no_secrets answer.TooMany one other isnt issuer base defaults = refl
+tells_no_secrets answer.Conflict one other isnt issuer base defaults = refl
+tells_no_secrets answer.Disabled one other isnt issuer base defaults = refl
+tells_no_secrets (answer.Early until) one other isnt issuer base defaults = refl
+tells_no_secrets (answer.Long size) one other isnt issuer base defaults = refl
 
 pub pages_rest_on_the_key : PagesRestOnTheKey
 pages_rest_on_the_key tokens more one other key = ap (λ k. json 200 (sets_text tokens more k)) key

@@ -28,8 +28,8 @@ pub fn requests_make_proper_calls()
     ensures { RequestsMakeProperCalls }
 {}
 
-/// What a response that is no page of tokens tells rests of the rules on the issuer, the prefix of addresses and the default subjects alone: it
-/// tells no bearer, no client and no key.
+/// What a response that is no page of tokens tells rests of the rules on the issuer, the prefix of addresses and the default
+/// subjects alone: it tells no bearer, no client and no key of theirs.
 pub fn responses_tell_no_secrets()
     ensures { TellsNoSecrets }
 {}

@@ -15,7 +15,9 @@
 //! Promised: a request makes the call of the route with its path and method, where the bearer is the route's and the
 //! query or body says one, and else it is refused with the first of path, method, bearer and place that is wrong; each
 //! answer has the status and the document of its row; a call is a proper one; a client's bearer makes that client's calls
-//! alone, and no response tells a bearer or the key (`laws`).
+//! alone, where each bearer is one's; and a response that is no page of tokens tells of the rules the issuer, the prefix of
+//! addresses and the default subjects alone, so no bearer and no key of theirs (`laws`). A stream's configuration tells what
+//! its client gave, its `authorization_header` too.
 //! Left out: how messages are read and written.
 #![tactic(auto)]
 
