@@ -7,8 +7,11 @@ use sig_outside::{Disk, Failed};
 use std::fs::{File, Files, OpenOptions, TryLockError};
 use std::io::ErrorKind;
 use std::marker::Model;
-use std::os::unix::fs::FileExt;
+use std::os::unix::fs::{FileExt, OpenOptionsExt};
 use thiserror::Error;
+
+// A new file is its owner's alone, since a store has bearers and tokens.
+const OWNER_ALONE: u32 = 0o600;
 
 /// A file of the system as a disk. Contracts see it as the count of its faults; it tells nothing of its content.
 #[derive(Drop)]
@@ -37,7 +40,8 @@ pub enum OpenFault {
 }
 
 impl FileDisk {
-    /// Opens a file, or makes an empty one, and locks it against every other process until it is let go.
+    /// Opens a file, or makes an empty one that its owner alone may read and write, and locks it against every other process
+    /// until it is let go.
     pub fn open<R: Files<File = File>>(rt: &R, path: &str) -> Result<FileDisk, OpenFault>
         ensures { IfOk result (λ disk. disk ≡ 0) }
     {
@@ -45,6 +49,7 @@ impl FileDisk {
             .read(true)
             .write(true)
             .create(true)
+            .mode(OWNER_ALONE)
             .open(rt, path);
         let Ok(file) = opened else {
             return Err(OpenFault::Failed);
