@@ -5,13 +5,12 @@ use crate::held_door::HeldDoor;
 use crate::held_link::Plan;
 use crate::outcome::{has_text, outcome_of};
 use crate::stores::{Files, store};
+use crate::watched::watch_receiver;
 use sig_json::Memory;
 use sig_outside::MemDisk;
-use sig_rxend::Receiver;
 use sig_rxnode::{RxNode, RxRules};
 use sig_rxsettings::{RxSettings, rx_settings};
 use sig_txnode::LoadRefused;
-use sig_watch::serve_watch;
 use std::alloc::Global;
 use std::sync::atomic::AtomicU64;
 use std::test::Fail;
@@ -77,7 +76,7 @@ fn a_check_that_is_held_knows_what_is_pushed_meanwhile(rt: HostRuntime) -> Resul
         let _ = node.into_disks();
         return Err(Memory.into());
     }
-    let end = serve_watch::<Receiver<MemDisk>, _, _>(alloc, &rt, node, &mut door);
+    let end = watch_receiver(alloc, &rt, node, &mut door);
     let (node, report) = outcome_of(end);
     let _ = node.into_disks();
     assert!(rt; report.is_some_and(|report| report.shut && report.links.as_slice().len() == 2));

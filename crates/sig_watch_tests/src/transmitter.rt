@@ -8,13 +8,12 @@ use crate::held_door::HeldDoor;
 use crate::held_link::Plan;
 use crate::outcome::{has_text, outcome_of};
 use crate::stores::{Files, store};
+use crate::watched::watch_transmitter;
 use sig_json::{Memory, Text};
 use sig_outside::MemDisk;
 use sig_terms::{Call, Rules, Want};
-use sig_txend::Transmitter;
 use sig_txnode::{LoadRefused, TxNode};
 use sig_txsettings::{TxSettings, tx_settings};
-use sig_watch::serve_watch;
 use std::alloc::Global;
 use std::sync::atomic::AtomicU64;
 use std::test::Fail;
@@ -107,7 +106,7 @@ fn a_poll_that_is_held_lists_what_is_published_meanwhile(rt: HostRuntime) -> Res
         let _ = node.into_disks();
         return Err(Memory.into());
     }
-    let end = serve_watch::<Transmitter<MemDisk>, _, _>(alloc, &rt, node, &mut door);
+    let end = watch_transmitter(alloc, &rt, node, &mut door);
     let (node, report) = outcome_of(end);
     let _ = node.into_disks();
     assert!(rt; report.is_some_and(|report| report.shut && report.links.as_slice().len() == 2));

@@ -1,0 +1,39 @@
+//! One watch of either server, over any disk and any door: that a node moves between threads is told here once, by its fields.
+
+ghost use Rattle.std.specs.Prelude.{◌≡◌, None};
+
+use sig_link::LinkLog;
+use sig_links::Door;
+use sig_outside::Disk;
+use sig_rxend::Receiver;
+use sig_rxnode::{RxNode, RxTurn};
+use sig_txend::Transmitter;
+use sig_txnode::{Turn, TxNode};
+use sig_watch::{WatchEnd, serve_watch};
+use std::alloc::Global;
+use std::sync::Wait;
+use std::thread::Threads;
+
+/// One watch of a transmitter.
+pub fn watch_transmitter<R: Threads + Wait + Sync, D: Disk + Send, A: Door>(
+    alloc: Global,
+    rt: &R,
+    node: TxNode<D>,
+    door: &mut A,
+) -> WatchEnd<TxNode<D>, LinkLog<Turn>>
+    requires { node.store.broken_at ≡ None }
+{
+    serve_watch::<Transmitter<D>, R, A>(alloc, rt, node, door)
+}
+
+/// One watch of a receiver.
+pub fn watch_receiver<R: Threads + Wait + Sync, D: Disk + Send, A: Door>(
+    alloc: Global,
+    rt: &R,
+    node: RxNode<D>,
+    door: &mut A,
+) -> WatchEnd<RxNode<D>, LinkLog<RxTurn>>
+    requires { node.kept.store.broken_at ≡ None }
+{
+    serve_watch::<Receiver<D>, R, A>(alloc, rt, node, door)
+}
