@@ -5,7 +5,7 @@ use Rattle.sig_outside.specs.Causes.{Rose}
 use Rattle.sig_journal.specs.declared.fault.LoadFault.{LoadFault}
 use Rattle.sig_journal.specs.declared.fault.LoadFault.TheVariants as load
 use Rattle.sig_settings.specs.declared.fault.SettingsFault.{SettingsFault}
-use Rattle.sig_opening.specs.Ends.{BreaksAfter, BreaksBy, ByEnd, IsEndOfWatches, fails_by, of_load, of_unread}
+use Rattle.sig_opening.specs.Ends.{BreaksAfter, ByEnd, IsEndOfWatches, of_load, of_unread}
 use Rattle.sig_opening.specs.Files.{HaltsStore, IsDamaged}
 use Rattle.sig_opening.specs.Settings.{AreRefused, HaltsSettings}
 use Rattle.sig_opening.specs.declared.ending.ServeEnd.{ServeEnd}

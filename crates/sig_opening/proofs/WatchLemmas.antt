@@ -1,8 +1,8 @@
 -- One watch after another, whatever a watch is.
 use Rattle.std.proofs.Common.{◌≡◌, ◌≢◌, ◌∙◌, ℕ, ◌+◌, ◌<◌, Bool, true, false, List, [], ◌∷◌, ◌++◌, length, Option, Some, None, IfSome, if◌then◌else◌, inl, inr, refl, sym, ap, subst, arith, append_assoc, append-nil, length-append}
-use Rattle.std.specs.Prelude.{All, IfNone, flat_map}
+use Rattle.std.specs.Prelude.{IfNone, flat_map}
 use Rattle.std.proofs.lemmas.List.Elements.{All-append, All-cons, All-nil}
-use Rattle.sig_opening.specs.Watches.{Agree, AgreesBy, AreInRow, EndDiffers, EndShut, GoesOn, RunsTo, Standing, StopsAt, Tells}
+use Rattle.sig_opening.specs.Watches.{Agree, AgreesBy, AreInRow, EndShut, GoesOn, RunsTo, Standing, StopsAt, Tells}
 use Rattle.sig_opening.specs.Ends.{IsEndOfWatches}
 use Rattle.sig_opening.specs.declared.ending.ServeEnd.{ServeEnd}
 use Rattle.sig_opening.specs.declared.ending.ServeEnd.TheVariants.{Done, SettingsFailed, Refused, StoreFailed, Damaged, NetworkFailed, Disagree, Memory}

@@ -4,6 +4,7 @@ pub mod Settings
 pub mod Files
 pub mod Ends
 pub mod Closing
+pub mod Stores
 pub mod Watches
 pub mod Door
 pub mod Serving

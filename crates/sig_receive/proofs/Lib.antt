@@ -1,5 +1,4 @@
 pub mod SettingsLemmas
-pub mod OpeningLemmas
 pub mod RunLemmas
 pub mod ServingLemmas
 pub mod RoundLemmas

@@ -1,13 +1,10 @@
 -- What the outside tells of a receiver's settings and of its store.
 use Rattle.std.specs.Prelude.{ℕ, List, Option, Result}
 use Rattle.sig_journal.specs.declared.fault.LoadFault.{LoadFault}
-use Rattle.sig_journal.specs.declared.kind.Kind.TheVariants.{Rx}
-use Rattle.sig_journal.specs.Store.{tells}
 use Rattle.sig_receiver.specs.Receiver.{Received}
-use Rattle.sig_journal.specs.Taking.{loaded}
-use Rattle.sig_rxnode.specs.Records.{receiving}
 use Rattle.sig_rxsettings.specs.declared.settings.RxSettings.{RxSettings}
 use Rattle.sig_rxsettings.specs.Settings.{rx_settings_of}
+use Rattle.sig_rxend.specs.Stores as stores
 use Rattle.sig_opening.specs.Files as files
 use Rattle.sig_opening.specs.Settings as settings
 
@@ -25,7 +22,7 @@ AreRefused told member = settings.AreRefused rx_settings_of told member
 
 -- what a receiver's store of these two files stands for, or where it is damaged
 abbrev pub state_of : List ℕ → List ℕ → Result Received LoadFault
-state_of a b = loaded receiving (tells Rx a b)
+state_of = stores.state_of
 
 -- where both files are told, the store stands for this state
 abbrev pub StandsForState : Option (List ℕ) → Option (List ℕ) → Received → Type 0

@@ -12,13 +12,14 @@ ghost use Rattle.sig_receive.specs.Peers.{FetchRefused};
 ghost use Rattle.sig_receive.specs.Sides.{beside, sides_of};
 
 use crate::FetchEnd;
-use crate::opening::{give_back, open};
 use crate::peer::peer_of;
 use crate::settings::settings_from;
 use sig_fetch::{FetchFault, Fetched};
 use sig_init::{FileNames, file_names};
 use sig_links::Outside;
+use sig_opening::{give_back, open};
 use sig_outside::Disk;
+use sig_rxend::Receiver;
 use sig_rxnode::{Peer, RxNode};
 use sig_rxsettings::RxSettings;
 use std::alloc::Global;
@@ -97,10 +98,10 @@ fn fetch_store<X: Outside>(
     ensures doors { (X.doors outside.new ≡ X.doors outside.old) × (X.doors_out outside.new ≡ X.doors_out outside.old) × (X.doors_back outside.new ≡ X.doors_back outside.old) }
 {
     let RxSettings { rules, listen: _ } = said;
-    match open(alloc, rules, names, outside) {
+    match open::<Receiver<X::D>, X>(alloc, rules, names, outside) {
         Ok(node) => {
             let Rounded { node, fetched } = make_rounds(alloc, node, peer, rounds, outside);
-            give_back(node, names, outside);
+            give_back::<Receiver<X::D>, X>(node, names, outside);
             FetchEnd::of_rounds(fetched)
         }
         Err(fault) => FetchEnd::of_load(fault),

@@ -18,7 +18,6 @@
 
 mod ending;
 mod fetching;
-mod opening;
 mod peer;
 mod serving;
 mod settings;

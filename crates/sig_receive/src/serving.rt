@@ -12,12 +12,13 @@ ghost use Rattle.sig_receive.specs.Ends.{AreRefused, IsDamaged};
 ghost use Rattle.sig_receive.specs.Serving.{Serves, ServesBy};
 
 use crate::ServeEnd;
-use crate::opening::{give_back, open};
 use crate::settings::settings_from;
 use crate::watches::{Served, run_watches};
 use sig_init::{FileNames, file_names};
 use sig_links::Outside;
+use sig_opening::{give_back, open};
 use sig_outside::Place;
+use sig_rxend::Receiver;
 use sig_rxnode::RxNode;
 use sig_rxsettings::RxSettings;
 use std::alloc::Global;
@@ -90,10 +91,10 @@ fn serve_store<R: Threads + Wait + Sync, X: Outside>(
     ensures sides { (X.sides outside.new ≡ X.sides outside.old) × (X.sides_out outside.new ≡ X.sides_out outside.old) × (X.sides_back outside.new ≡ X.sides_back outside.old) }
 {
     let RxSettings { rules, listen } = said;
-    match open(alloc, rules, names, outside) {
+    match open::<Receiver<X::D>, X>(alloc, rules, names, outside) {
         Ok(node) => {
             let Served { node, end } = serve_at(alloc, rt, node, &listen, watches, outside);
-            give_back(node, names, outside);
+            give_back::<Receiver<X::D>, X>(node, names, outside);
             end
         }
         Err(fault) => ServeEnd::of_load(fault),

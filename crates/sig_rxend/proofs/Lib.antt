@@ -1,2 +1,3 @@
 pub mod SideLemmas
+pub mod StoreLemmas
 pub mod WatchLemmas

@@ -19,6 +19,7 @@ mod end;
 pub mod laws;
 mod locked;
 mod receiver;
+mod stored;
 mod threads;
 mod turning;
 

@@ -1,4 +1,3 @@
 pub mod SettingsLemmas
-pub mod OpeningLemmas
 pub mod RunLemmas
 pub mod ServingLemmas

@@ -1,13 +1,10 @@
 -- What the outside tells of a transmitter's settings and of its store.
 use Rattle.std.specs.Prelude.{ℕ, List, Option, Result}
 use Rattle.sig_journal.specs.declared.fault.LoadFault.{LoadFault}
-use Rattle.sig_journal.specs.declared.kind.Kind.TheVariants.{Tx}
-use Rattle.sig_journal.specs.Store.{tells}
 use Rattle.sig_history.specs.Owed.{Sum}
-use Rattle.sig_journal.specs.Taking.{loaded}
-use Rattle.sig_txnode.specs.Records.{sending}
 use Rattle.sig_txsettings.specs.declared.settings.TxSettings.{TxSettings}
 use Rattle.sig_txsettings.specs.Settings.{tx_settings_of}
+use Rattle.sig_txend.specs.Stores as stores
 use Rattle.sig_opening.specs.Files as files
 use Rattle.sig_opening.specs.Settings as settings
 
@@ -25,7 +22,7 @@ AreRefused told member = settings.AreRefused tx_settings_of told member
 
 -- the state that a transmitter's store of these two files stands for, or where it is damaged
 abbrev pub state_of : List ℕ → List ℕ → Result Sum LoadFault
-state_of a b = loaded sending (tells Tx a b)
+state_of = stores.state_of
 
 -- where both files are told, the store stands for this state
 abbrev pub StandsForState : Option (List ℕ) → Option (List ℕ) → Sum → Type 0

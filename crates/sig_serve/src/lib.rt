@@ -14,7 +14,6 @@
 //! that links are served at the same time, which no contract can say, and that a link comes.
 #![tactic(auto)]
 
-mod opening;
 mod serving;
 mod settings;
 mod watches;

@@ -3,3 +3,4 @@ pub mod Transmitter
 pub mod Turning
 pub mod Ends
 pub mod Serving
+pub mod Stores

@@ -20,6 +20,7 @@
 mod end;
 mod following;
 mod locked;
+mod stored;
 mod threads;
 mod transmitter;
 

@@ -6,29 +6,26 @@ use Rattle.sig_history.specs.Owed.{Sum, sum_of}
 use Rattle.sig_history.specs.Sound.{is_fitting}
 use Rattle.sig_history.specs.Whole.{IsWhole}
 use Rattle.sig_journal.specs.declared.kind.Kind.TheVariants.{Tx}
+use Rattle.sig_opening.specs.Stores.{FilesTell, Loads, TellsAs}
+use Rattle.sig_opening.proofs.FilesLemmas.{puts_back}
 use Rattle.sig_terms.specs.declared.fact.Fact.{Fact}
 use Rattle.sig_terms.specs.declared.rules.Rules.{Rules}
 use Rattle.sig_txnode.specs.Loaded.{Begins}
 use Rattle.sig_txnode.specs.Node.{IsNode, NodeView, first_file, second_file}
 use Rattle.sig_txnode.specs.Records.{after_record, sending}
-use Rattle.sig_opening.specs.Files.{IsToldBy}
-use Rattle.sig_opening.proofs.FilesLemmas.{both_told, puts_back, told_on}
-use Rattle.sig_serve.specs.Closing.{FilesTell, with_fact}
-use Rattle.sig_serve.specs.Ends.{state_of}
-use Rattle.sig_serve.specs.Opening.{Opens}
+use Rattle.sig_txend.specs.Stores.{held_by, state_of, with_fact}
 
 -- a node that was loaded stands for what its files told
-pub opens_by : {D : Type 0} (told : D → Bool) (seen : D → List ℕ) (may_leave : D → List ℕ → Type 0) (rules : Rules) (a b : D) (node : NodeView D)
+pub loads_by : {D : Type 0} (told : D → Bool) (seen : D → List ℕ) (may_leave : D → List ℕ → Type 0) (rules : Rules) (a b : D) (node : NodeView D)
     → (IsTrue (told a) → IsTrue (told b) → state_of (seen a) (seen b) ≡ Ok node.state) → Begins told seen may_leave rules node → IsWhole node.state
-    → told (first_file node) ≡ told a → seen (first_file node) ≡ seen a → told (second_file node) ≡ told b → seen (second_file node) ≡ seen b
-    → (first second : Option (List ℕ)) → IsToldBy told seen first a → IsToldBy told seen second b → Opens told seen rules first second node
-opens_by told seen may_leave rules a b node stands begins whole told_a seen_a told_b seen_b = λ first second p q. record {
+    → TellsAs told seen a (first_file node) → TellsAs told seen b (second_file node) → Loads told seen state_of IsWhole rules a b (held_by node)
+loads_by told seen may_leave rules a b node stands begins whole first second = record {
   rules_same = begins.same_rules;
   whole = begins.whole;
-  state = both_told told seen first second a b (λ s t. state_of s t ≡ Ok node.state) p q stands;
+  state = stands;
   sound = whole;
-  file_a = told_on told seen first a (first_file node) told_a seen_a p;
-  file_b = told_on told seen second b (second_file node) told_b seen_b q;
+  first = first;
+  second = second;
 }
 
 -- a record that was taken up is that of a fact
@@ -42,6 +39,6 @@ taken_fact state next (Err e) is = absurd cc
 
 -- what the files of a node tell
 pub node_tells : {D : Type 0} (told : D → Bool) (seen : D → List ℕ) (may_leave : D → List ℕ → Type 0) (reads_now : (file : D) → IsTrue (told file) → may_leave file (seen file))
-    → (node : NodeView D) → IsNode told seen may_leave node → FilesTell told seen node
+    → (node : NodeView D) → IsNode told seen may_leave node → FilesTell told seen state_of with_fact (held_by node)
 node_tells told seen may_leave reads_now node kept = λ fails broken.
     puts_back sending with_fact Tx told seen may_leave reads_now (λ state payload next is. taken_fact state next _ is) node.store node.state fails kept.kind kept.stands broken
