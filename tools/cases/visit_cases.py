@@ -50,8 +50,12 @@ def response(status, body=b"", *fields, close=False):
     return "\r\n".join(head).encode() + body
 
 
-def bad(place, close=False):
-    return response(400, b'{"description":"%s","err":"invalid_request"}' % place.encode(), close=close)
+def bad(place):
+    return response(400, b'{"description":"%s","err":"invalid_request"}' % place.encode())
+
+
+def unread(place):
+    return response(400, b'{"description":"%s"}' % place.encode(), close=True)
 
 
 def coded(code, spot):
@@ -98,7 +102,7 @@ def links():
     yield link("Bodies that are no subject (RFC 9493, section 3).",
                b"".join(request("POST", "/sessions/check", body) for body in (b"", b"[]", b"{}", b'{"format":"opaque"}', b'{"format":"opaque","id":"s-77","x":1}')),
                "end", bad("body") * 2, bad("subject") * 3)
-    yield link("A head that is none is answered once, and the link closes.", b"nonsense\r\n\r\n" + check("s-77"), "head", bad("head", close=True))
+    yield link("A head that is none is answered once, and the link closes.", b"nonsense\r\n\r\n" + check("s-77"), "head", unread("head"))
     yield link("A body that is cut is answered nothing.", check("s-77")[:-1], "cut")
     yield link("A body above the limit is refused unread (RFC 9110, section 15.5.14).", check("s-77").replace(b"content-length: 31", b"content-length: 65537"), "body-long", response(413, close=True))
     yield link("A second token about the same subject, and one about a part of another (RFC 8417, section 2.1; SSF, section 3.2).",

@@ -2,7 +2,7 @@
 from models.subjects import refuse
 from models.values import NotJson, dump, read
 
-OF_THE_BEARER = ("authentication_failed", "access_denied")
+OF_TOKENS = ("invalid_request", "invalid_key", "invalid_issuer", "invalid_audience")
 
 
 def need(holds, name):
@@ -56,6 +56,6 @@ def outcome(status, body):
     except NotJson:
         value = None
     code = value.get("err") if isinstance(value, dict) else None
-    if status == 400 and is_text(code) and code not in OF_THE_BEARER:
+    if status == 400 and is_text(code) and code in OF_TOKENS:
         return "reported " + dump(code)
     return "keep"

@@ -1,5 +1,6 @@
 -- What the response to a push settles (RFC 8935, sections 2.2 to 2.4).
-use Rattle.std.specs.Prelude.{ℕ, ◌==◌, ◌||◌, List, Bool, Option, Some, None, option_and_then, bytes_eq, codes, if◌then◌else◌}
+use Rattle.std.specs.Prelude.{ℕ, ◌==◌, List, [], ◌∷◌, Bool, Option, Some, None, option_and_then, bytes_eq, codes, if◌then◌else◌}
+use Rattle.std.specs.List.{list_any}
 use Rattle.sig_json.specs.Json.{json_of, text_member}
 use Rattle.sig_http.specs.declared.message.Response.{Response}
 use Rattle.sig_set.specs.declared.refusal.Code.{Code}
@@ -7,14 +8,19 @@ use Rattle.sig_set.specs.declared.refusal.Code.TheVariants.{InvalidRequest, Inva
 use Rattle.sig_terms.specs.declared.call.Outcome.{Outcome}
 use Rattle.sig_terms.specs.declared.call.Outcome.TheVariants.{Accepted, Keep, Reported}
 
--- the codes that say nothing of the token, but of who brings it (section 2.4)
-abbrev pub is_of_bearer : List ℕ → Bool
-is_of_bearer code = bytes_eq code (codes "authentication_failed") || bytes_eq code (codes "access_denied")
+-- the codes by which a receiver says that a token is faulty (section 2.4): the two others that are registered speak of
+-- who brings it, and what isn't registered may be another's word than a receiver's
+abbrev pub codes_of_tokens : List (List ℕ)
+codes_of_tokens =
+    codes "invalid_request" ∷ codes "invalid_key" ∷ codes "invalid_issuer" ∷ codes "invalid_audience" ∷ []
 
--- a code settles the token as faulty, unless it speaks of the bearer
+abbrev pub is_of_token : List ℕ → Bool
+is_of_token code = list_any (bytes_eq code) codes_of_tokens
+
+-- such a code settles the token as faulty, and nothing else does
 abbrev pub reported_as : Option (List ℕ) → Outcome
 reported_as None = Keep
-reported_as (Some code) = if is_of_bearer code then Keep else Reported code
+reported_as (Some code) = if is_of_token code then Reported code else Keep
 
 -- `err` of a body that is a JSON object (section 2.3)
 abbrev pub code_in : List ℕ → Option (List ℕ)

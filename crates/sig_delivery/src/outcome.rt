@@ -11,8 +11,9 @@ use std::alloc::Global;
 /// What the response to a push settles (RFC 8935, sections 2.2 to 2.4).
 ///
 /// `Accepted` comes exactly at 202, whatever the body is. `Reported` comes exactly at 400 with a JSON object whose `err` is
-/// a text other than `authentication_failed` and `access_denied`, which say nothing of the token. Else it is `Keep`, so
-/// that the token is pushed again.
+/// one of the codes that section 2.4 registers for a faulty token: `invalid_request`, `invalid_key`, `invalid_issuer`
+/// and `invalid_audience`. Else it is `Keep`, so that the token is pushed again: `authentication_failed` and
+/// `access_denied` speak of who brings the token, and a code that isn't registered may be a proxy's.
 pub fn outcome_of(alloc: Global, response: &Response) -> Result<Outcome, Memory>
     ensures { IfOk result (λ outcome. outcome ≡ spec.outcome_of response.now) }
 {
@@ -41,10 +42,20 @@ fn reported_in(alloc: Global, body: &[u8]) -> Result<Outcome, Memory>
 fn reported_as(alloc: Global, code: &str) -> Result<Outcome, Memory>
     ensures { IfOk result (λ outcome. outcome ≡ spec.reported_as (Some code.now)) }
 {
-    if code == "authentication_failed" || code == "access_denied" {
+    if !is_of_token(code) {
         return Ok(Outcome::Keep);
     }
     Ok(Outcome::Reported {
         code: Text::of(alloc, code)?,
     })
+}
+
+// Whether a receiver says by this code that the token is faulty.
+fn is_of_token(code: &str) -> bool
+    ensures { result ≡ spec.is_of_token code.now }
+{
+    code == "invalid_request"
+        || code == "invalid_key"
+        || code == "invalid_issuer"
+        || code == "invalid_audience"
 }

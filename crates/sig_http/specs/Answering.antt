@@ -21,11 +21,12 @@ bad_request body = record {
   body = body;
 }
 
--- the response to a fault (RFC 9110, sections 15.5.1, 15.5.14, 15.5.16, 15.5.18; RFC 6585, section 5)
+-- the response to a fault (RFC 9110, sections 15.5.1, 15.5.14, 15.5.16, 15.5.18; RFC 6585, section 5). What can't be read
+-- says nothing of a token, so it has no code of RFC 8935, section 2.4
 abbrev pub closing_of : HttpFault → Option Response
-closing_of Head = Some (bad_request (codes "{\"description\":\"head\",\"err\":\"invalid_request\"}"))
+closing_of Head = Some (bad_request (codes "{\"description\":\"head\"}"))
 closing_of HeadLong = Some (closing 431)
-closing_of Length = Some (bad_request (codes "{\"description\":\"length\",\"err\":\"invalid_request\"}"))
+closing_of Length = Some (bad_request (codes "{\"description\":\"length\"}"))
 closing_of BodyLong = Some (closing 413)
 closing_of Coding = Some (closing 415)
 closing_of Expect = Some (closing 417)

@@ -10,18 +10,20 @@ use std::alloc::Global;
 /// The response with which a server answers a request that can't be read, after which it closes the link. There is none
 /// exactly for `Cut`, `Link` and `Memory`.
 ///
-/// A 400 names the place that is wrong, `head` or `length`, in the form of RFC 8935 section 2.3; the others have no body.
+/// A 400 names the place that is wrong, `head` or `length`, as `description`. It has no `err`: what can't be read says
+/// nothing of a token, and a transmitter must not take it for the end of one (RFC 8935, section 2.4). The others have no
+/// body.
 pub fn fault_of(alloc: Global, fault: &HttpFault) -> Result<Option<Response>, Memory>
     ensures { IfOk result (λ response. response ≡ spec.closing_of fault.now) }
 {
     Ok(match fault {
         HttpFault::Head => Some(bad_request(
             alloc,
-            b"{\"description\":\"head\",\"err\":\"invalid_request\"}",
+            b"{\"description\":\"head\"}",
         )?),
         HttpFault::Length => Some(bad_request(
             alloc,
-            b"{\"description\":\"length\",\"err\":\"invalid_request\"}",
+            b"{\"description\":\"length\"}",
         )?),
         HttpFault::HeadLong => Some(closing(alloc, 431)),
         HttpFault::BodyLong => Some(closing(alloc, 413)),
