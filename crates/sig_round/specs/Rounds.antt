@@ -1,5 +1,5 @@
--- A round of pushes: its turns, what it does to the side by which it dials, and why it ends (RFC 8935, section 2).
-use Rattle.std.specs.Prelude.{◌≡◌, ℕ, List, [], ◌∷◌, Option, Result, Ok, Err, ⊤}
+-- Rounds of pushes: their turns, what they do to the side by which they dial, and why they end (RFC 8935, section 2).
+use Rattle.std.specs.Prelude.{◌≡◌, ℕ, Bool, true, false, List, [], ◌∷◌, ◌++◌, Option, Result, Ok, Err, ⊤}
 use Rattle.sig_push.specs.declared.fault.PushFault.{PushFault}
 use Rattle.sig_push.specs.declared.fault.PushFault.TheVariants.{Memory}
 use Rattle.sig_journal.specs.declared.node_fault.NodeFault.{NodeFault}
@@ -19,15 +19,49 @@ abbrev pub tokens_in : Result Answer NodeFault → List Token
 tokens_in (Ok (Handed tokens)) = tokens
 tokens_in _ = []
 
--- a round over these streams made these turns, did so to the side, and ended so: first a Hand turn over the streams, and then
+-- a round over one stream made these turns, did so to the side, and ended so: first a Hand turn over the stream, and then
 -- the Settle turns of what it handed; with no turn at all memory ran out before, and the side is as it was
-abbrev pub IsRound : Rules → Asker → List (List ℕ) → SideView → SideView → List Turn → Result ⊤ PushFault → Type 0
-IsRound rules by streams before after [] end = (end ≡ Err Memory) × (after ≡ before)
-IsRound rules by streams before after (hand ∷ settles) end =
-    IsTurnOf by (Hand streams) hand × Delivers rules by (tokens_in hand.result) before after settles end
+abbrev pub IsRound : Rules → Asker → List ℕ → SideView → SideView → List Turn → Result ⊤ PushFault → Type 0
+IsRound rules by stream before after [] end = (end ≡ Err Memory) × (after ≡ before)
+IsRound rules by stream before after (hand ∷ settles) end =
+    IsTurnOf by (Hand (stream ∷ [])) hand × Delivers rules by (tokens_in hand.result) before after settles end
 
 -- and these turns stand in the log and are told by the taker
-pub record Rounded (rules : Rules) (by : Asker) (streams : List (List ℕ)) (before after : SideView) (turns turns' : List Turn) (told told' : Option TakerTold) (end : Result ⊤ PushFault) : Type 0 where
+pub record Rounded (rules : Rules) (by : Asker) (stream : List ℕ) (before after : SideView)
+    (turns turns' : List Turn) (told told' : Option TakerTold) (end : Result ⊤ PushFault) : Type 0 where
   pub more : List Turn
   pub adds : Adds more turns turns' told told'
-  pub round : IsRound rules by streams before after more end
+  pub round : IsRound rules by stream before after more end
+
+-- memory ran out in the round of one stream, which ended so
+abbrev pub is_starved : Result ⊤ PushFault → Bool
+is_starved (Err Memory) = true
+is_starved end = false
+
+-- what follows the round of a stream: those of the others, unless memory ran out in it
+abbrev pub NextUnless : Bool → Type 0 → Type 0 → Type 0
+NextUnless false others ended = others
+NextUnless true others ended = ended
+
+-- rounds over these streams, one after another, made these turns, did so to the side, and ended so: memory ran out, or didn't.
+-- Each stream has a round of its own: a push without an answer ends that of its stream, and the next stream's follows
+abbrev pub AreRounds : Rules → Asker → List (List ℕ) → SideView → SideView → List Turn → Bool → Type 0
+AreRounds rules by [] before after turns starved = (turns ≡ []) × (after ≡ before) × (starved ≡ false)
+AreRounds rules by (stream ∷ streams) before after turns starved =
+    (between : SideView) × (one : Result ⊤ PushFault) × (these : List Turn) × (those : List Turn) × (turns ≡ these ++ those)
+    × IsRound rules by stream before between these one
+    × NextUnless (is_starved one) (AreRounds rules by streams between after those starved) ((those ≡ []) × (after ≡ between) × (starved ≡ true))
+
+-- and these turns stand in the log and are told by the taker
+pub record AllRounded (rules : Rules) (by : Asker) (streams : List (List ℕ)) (before after : SideView)
+    (turns turns' : List Turn) (told told' : Option TakerTold) (starved : Bool) : Type 0 where
+  pub more : List Turn
+  pub adds : Adds more turns turns' told told'
+  pub rounds : AreRounds rules by streams before after more starved
+
+-- the same of one stream
+pub record Attempted (rules : Rules) (by : Asker) (stream : List ℕ) (before after : SideView)
+    (turns turns' : List Turn) (told told' : Option TakerTold) (starved : Bool) : Type 0 where
+  pub one : Result ⊤ PushFault
+  pub rounded : Rounded rules by stream before after turns turns' told told' one
+  pub outcome : starved ≡ is_starved one

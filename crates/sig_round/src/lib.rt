@@ -3,12 +3,13 @@
 //! It stands on `sig_txnode` for what answers calls, turn by turn, and on `sig_push` for the push of one token.
 //!
 //! ```text
-//!     streams --Hand turn--> tokens, one after another: --push--> what its response settles --Settle turn-->
+//!     each stream --Hand turn--> tokens, one after another: --push--> what its response settles --Settle turn-->
 //! ```
 //!
-//! Promised: a round is one Hand turn over the streams that it is given, and for the first tokens that were handed, in
-//! order, one push each and one Settle turn with what it settles; the log and the taker have these turns and no others. It
-//! ends at the first push that has no answer, and that token stays owed. Left out: which streams have rounds, and when.
+//! Promised: each stream that is given has a round of its own, in order. A round is one Hand turn over its stream, and for the
+//! first tokens that were handed, in order, one push each and one Settle turn with what it settles; the log and the taker
+//! have these turns and no others. It ends at the first push that has no answer, and that token stays owed; the next
+//! stream's round follows all the same, unless memory ran out. Left out: which streams have rounds, and when.
 #![tactic(auto)]
 
 mod asking;
@@ -20,4 +21,4 @@ mod threads;
 
 pub use asking::turn_of;
 pub use log::TurnLog;
-pub use round::push_round;
+pub use round::push_rounds;

@@ -1,9 +1,10 @@
-//! A round, from its Hand turn on.
+//! Rounds, each from its Hand turn on.
 
-ghost use Rattle.std.specs.Prelude.{◌≡◌, [], ◌∷◌, ◌++◌, List, IfOk};
+ghost use Rattle.std.specs.Prelude.{◌≡◌, [], ◌∷◌, ◌++◌, List, IfOk, OnErr, OnOk, is_err};
 ghost use Rattle.sig_round.specs.Delivered.{Delivered};
 ghost use Rattle.sig_round.specs.Rounds as handed;
-ghost use Rattle.sig_round.specs.Rounds.{Rounded};
+ghost use Rattle.sig_round.specs.Rounds.{AllRounded, Attempted, Rounded};
+ghost use Rattle.sig_round.specs.Turns.{Adds, AddsTurnOf};
 ghost use Rattle.sig_txnode.specs.declared.turn.Turn.{Turn};
 
 use crate::TurnLog;
@@ -16,28 +17,103 @@ use sig_txnode::{Taker, Turn};
 use std::alloc::Global;
 use std::sync::Wait;
 
-/// A round of pushes of these streams.
+/// Rounds of pushes of these streams, one after another: each has a round of its own, and where a push of it has no answer that
+/// round ends, and the next stream's follows.
 ///
-/// `Ok` says that each token that was handed has its Settle turn, whatever that turn answered. Any other answer says why the
-/// push at which the round ended has none: its own fault, or `Memory`, also where a turn was refused memory. A Hand turn that
-/// is answered by no tokens, as where the store failed, is a whole round.
-pub fn push_round<R: Wait, K: Taker, S: Side>(
+/// `Memory` says that memory ran out, in a push or in a turn; then the streams that are left have no round.
+pub fn push_rounds<R: Wait, K: Taker, S: Side>(
     alloc: Global,
     rt: &R,
     taker: &mut K,
     rules: &Rules,
-    streams: Items<Text>,
+    streams: &[Text],
     side: &mut S,
     log: &mut TurnLog,
-) -> Result<(), PushFault>
-    ensures round { Rounded rules.now (record { link = log.old.link; now = log.old.now }) streams (S.view side.old) (S.view side.new) log.old.turns.items log.new.turns.items (K.told taker.old) (K.told taker.new) result }
+) -> Result<(), Memory>
+    ensures rounds { AllRounded rules.now (record { link = log.old.link; now = log.old.now }) streams.now (S.view side.old) (S.view side.new)
+        log.old.turns.items log.new.turns.items (K.told taker.old) (K.told taker.new) (is_err result) }
     ensures link { log.new.link ≡ log.old.link }
     ensures now { log.new.now ≡ log.old.now }
 {
-    match log.ask(rt, taker, Call::Hand { streams }) {
+    for stream in streams {
+        push_round(alloc, rt, taker, rules, stream, side, log)?;
+    }
+    Ok(())
+}
+
+// The round of one stream. Only memory that runs out is more than its own end.
+fn push_round<R: Wait, K: Taker, S: Side>(
+    alloc: Global,
+    rt: &R,
+    taker: &mut K,
+    rules: &Rules,
+    stream: &Text,
+    side: &mut S,
+    log: &mut TurnLog,
+) -> Result<(), Memory>
+    ensures attempted { Attempted rules.now (record { link = log.old.link; now = log.old.now }) stream.now (S.view side.old) (S.view side.new)
+        log.old.turns.items log.new.turns.items (K.told taker.old) (K.told taker.new) (is_err result) }
+    ensures link { log.new.link ≡ log.old.link }
+    ensures now { log.new.now ≡ log.old.now }
+{
+    match push_offered(alloc, rt, taker, rules, stream, side, log) {
+        Err(PushFault::Memory) => Err(Memory),
+        _ => Ok(()),
+    }
+}
+
+// Pushes what a stream offers.
+//
+// `Ok` says that each token that was handed has its Settle turn, whatever that turn answered. Any other answer says why the
+// push at which the round ended has none: its own fault, or `Memory`, also where a turn was refused memory. A Hand turn that
+// is answered by no tokens, as where the store failed, is a whole round.
+fn push_offered<R: Wait, K: Taker, S: Side>(
+    alloc: Global,
+    rt: &R,
+    taker: &mut K,
+    rules: &Rules,
+    stream: &Text,
+    side: &mut S,
+    log: &mut TurnLog,
+) -> Result<(), PushFault>
+    ensures round { Rounded rules.now (record { link = log.old.link; now = log.old.now }) stream.now (S.view side.old) (S.view side.new)
+        log.old.turns.items log.new.turns.items (K.told taker.old) (K.told taker.new) result }
+    ensures link { log.new.link ≡ log.old.link }
+    ensures now { log.new.now ≡ log.old.now }
+{
+    match hand(alloc, rt, taker, stream, log) {
         Ok(()) => deliver_handed(alloc, rt, taker, rules, side, log),
         Err(Memory) => Err(PushFault::Memory),
     }
+}
+
+// Asks for what a stream offers, in a turn.
+fn hand<R: Wait, K: Taker>(
+    alloc: Global,
+    rt: &R,
+    taker: &mut K,
+    stream: &Text,
+    log: &mut TurnLog,
+) -> Result<(), Memory>
+    ensures asked { OnOk result (AddsTurnOf (record { link = log.old.link; now = log.old.now }) (Call.Hand (stream.now ∷ []))
+        log.old.turns.items log.new.turns.items (K.told taker.old) (K.told taker.new)) }
+    ensures memory { OnErr result (Adds [] log.old.turns.items log.new.turns.items (K.told taker.old) (K.told taker.new)) }
+    ensures link { log.new.link ≡ log.old.link }
+    ensures now { log.new.now ≡ log.old.now }
+{
+    match one_name(alloc, stream) {
+        Ok(streams) => log.ask(rt, taker, Call::Hand { streams }),
+        Err(Memory) => Err(Memory),
+    }
+}
+
+// A list of one name.
+fn one_name(alloc: Global, name: &Text) -> Result<Items<Text>, Memory>
+    ensures { IfOk result (λ names. names ≡ name.now ∷ []) }
+{
+    let mut names = Vec::new(alloc);
+    names.push(name.copy(alloc)?)?;
+    Ok(Items::of(names))
 }
 
 // Delivers the tokens that the last turn handed.

@@ -4,12 +4,12 @@ ghost use Rattle.sig_round.proofs.Grown.{grew_none, grew_on};
 ghost use Rattle.sig_txnode.specs.Told.{TakerTold};
 ghost use Rattle.sig_txend.specs.Transmitter.{transmitter};
 
-use crate::following::{outcome, streams_after};
+use crate::following::streams_after;
 use sig_http::{HttpRefusal, Request, Response};
 use sig_json::Memory;
 use sig_link::{End, faulted};
 use sig_links::Side;
-use sig_round::{TurnLog, push_round, turn_of};
+use sig_round::{TurnLog, push_rounds, turn_of};
 use sig_terms::{Call, Rules};
 use sig_txnode::{Taker, Turn};
 use sig_txroutes::{call_of, response_of};
@@ -80,9 +80,9 @@ impl<K: Taker> End for TxEnd<K> {
                     now,
                     turns: turns_so_far,
                 };
-                let end = push_round(alloc, rt, taker, rules, named, side, &mut log);
+                let end = push_rounds(alloc, rt, taker, rules, named.as_slice(), side, &mut log);
                 *turns = log.turns;
-                outcome(end)
+                end
             }
             Ok(None) => Ok(()),
             Err(Memory) => Err(Memory),

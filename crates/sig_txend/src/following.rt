@@ -1,26 +1,15 @@
-//! The push round that follows a turn.
+//! The push rounds that follow a turn.
 
-ghost use Rattle.std.specs.Prelude.{◌≡◌, ◌∷◌, [], IfOk, IsSome, OnErr, is_err, map};
+ghost use Rattle.std.specs.Prelude.{◌≡◌, ◌∷◌, [], IfOk, IsSome, OnErr, map};
 ghost use Rattle.sig_terms.specs.declared.token.Issued.{Issued};
 ghost use Rattle.sig_txend.specs.Following as spec;
 
 use sig_json::{Items, Memory, Text};
-use sig_push::PushFault;
 use sig_terms::{Answer, Issued};
 use sig_txnode::Turn;
 use std::alloc::Global;
 
-// What a push round that ended so is to the link that it follows on: only memory that runs out ends that too.
-pub fn outcome(end: Result<(), PushFault>) -> Result<(), Memory>
-    ensures { is_err result ≡ spec.is_starved end }
-{
-    match end {
-        Err(PushFault::Memory) => Err(Memory),
-        _ => Ok(()),
-    }
-}
-
-// The streams that a push round is over which follows a turn, where one does.
+// The streams that have push rounds after a turn, where some follow.
 pub fn streams_after(alloc: Global, turn: &Turn) -> Result<Option<Items<Text>>, Memory>
     ensures streams { IfOk result (λ streams. streams ≡ spec.streams_in turn.entry.now.result) }
     ensures memory { OnErr result (IsSome (spec.streams_in turn.entry.now.result)) }
@@ -31,7 +20,7 @@ pub fn streams_after(alloc: Global, turn: &Turn) -> Result<Option<Items<Text>>, 
     }
 }
 
-// The streams that an answer names for a push round, where one follows it.
+// The streams that an answer names for push rounds, where some follow it.
 fn streams_named(alloc: Global, answer: &Answer) -> Result<Option<Items<Text>>, Memory>
     ensures streams { IfOk result (λ streams. streams ≡ spec.streams_named answer.now) }
     ensures memory { OnErr result (IsSome (spec.streams_named answer.now)) }
