@@ -4,7 +4,6 @@ A signature of RSASSA-PKCS1-v1_5 has one value (RFC 8017, section 8.2.1), so the
 `rs256_tokens.txt` has tokens of another hand. The private keys stand here for everybody to read: they protect nothing. Nothing
 here comes from the program under test.
 """
-import math
 from dataclasses import dataclass, replace
 
 from cases.sign_tokens import HEADER, claims, mac_of, part, text
@@ -35,9 +34,9 @@ class PrivateKey:
         return (self.modulus.bit_length() + 7) // 8
 
     def power(self, number):
-        """What the private exponent makes of a number below the modulus (RFC 8017, section 5.2.1)."""
-        order = math.lcm(self.first - 1, self.second - 1)
-        return pow(number, pow(self.exponent, -1, order), self.modulus)
+        """What the private exponent makes of a number below the modulus (RFC 8017, section 5.1.2, step 2b)."""
+        first, second = (pow(number, pow(self.exponent, -1, prime - 1), prime) for prime in (self.first, self.second))
+        return second + self.second * ((first - second) * pow(self.second, -1, self.first) % self.first)
 
     def sign(self, front):
         """The signature of a text, or of bytes (RFC 8017, section 8.2.1)."""
