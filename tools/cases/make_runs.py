@@ -6,7 +6,10 @@ the pieces alone: up to the piece with the end of the line that stops the run, o
 second time after a last line that has no end. Nothing here comes from the program under test.
 """
 from cases import script_cases, walk_scripts
+from cases.rsa_keys import FIRST, OTHER, RS256, THIRD, bytes_of, confused, public_key_pem, rs256, rs256_header
 from cases.sign_fold import TESTS
+from cases.sign_tokens import claims, header, part
+from cases.wrong_signatures import A2
 from models import replay_model
 
 TOKENS = dict(TESTS)
@@ -90,6 +93,35 @@ def usage():
     ]:
         case(f"No command: {why}. The input isn't asked.", words, [TOKENS["GOOD"]], 1, "signals: usage\n", stop=0)
     case("A key of 64 bytes, as many as there may be.", ["fold", ISS, AUD, "QUFB" * 21 + "QQ"], [], 0, "rows 0 tokens 0\n")
+    public_key_words()
+
+
+def public_key_words():
+    n, e = part(bytes_of(FIRST.modulus)), "AQAB"
+    for why, word in [
+        ("`rs256:` alone", "rs256:"),
+        ("a modulus without an exponent", f"rs256:{n}"),
+        ("an empty exponent", f"rs256:{n}:"),
+        ("an empty modulus", f"rs256::{e}"),
+        ("a third part", f"rs256:{n}:{e}:"),
+        ("the word in other letters", f"RS256:{n}:{e}"),
+        ("another algorithm", f"rs512:{n}:{e}"),
+        ("no algorithm", f"{n}:{e}"),
+        ("a space", f"rs256: {n}:{e}"),
+        ("a modulus with padding", f"rs256:{n}==:{e}"),
+        ("a modulus with a leading zero", f"rs256:{part(bytes(1) + bytes_of(FIRST.modulus))}:{e}"),
+        ("a modulus of 2,047 bits", f"rs256:{part(bytes_of(2**2047 - 1))}:{e}"),
+        ("a modulus of 4,097 bits", f"rs256:{part(bytes_of(2**4096 + 1))}:{e}"),
+        ("an even modulus", f"rs256:{part(bytes_of(2**2048 - 2))}:{e}"),
+        ("an exponent with a leading zero", f"rs256:{n}:AAEAAQ"),
+        ("the exponent 1", f"rs256:{n}:AQ"),
+        ("an even exponent", f"rs256:{n}:{part(bytes_of(65538))}"),
+        ("the exponent 2^32 + 1", f"rs256:{n}:{part(bytes_of(2**32 + 1))}"),
+    ]:
+        # a space makes a fifth word
+        case(f"No command: {why} (RFC 7518, section 6.3.1). The input isn't asked.", ["fold", ISS, AUD, *word.split(" ")], [TOKENS["GOOD"]], 1, "signals: usage\n", stop=0)
+    for why, modulus, exponent in [("4,096 bits", 2**4096 - 1, 65537), ("2,048 bits and the exponent 3", 2**2048 - 1, 3), ("the exponent 2^32 - 1", 2**2048 - 1, 2**32 - 1)]:
+        case(f"A public key: {why}.", ["fold", ISS, AUD, f"rs256:{part(bytes_of(modulus))}:{part(bytes_of(exponent))}"], [], 0, "rows 0 tokens 0\n")
 
 
 GOOD_ROW = row(1, opaque("s-77")) + "rows 1 tokens 1\n"
@@ -139,6 +171,27 @@ def fold():
          "1 accepted\n" + row(1, '{"email":"a@example.com","format":"email"}', "session=unseen account=unseen device=unseen reset=no stale=yes opt=unseen level=-") + "rows 1 tokens 1\n")
     for name in ["NOTICE", "OTHER_EVENT"]:
         case("Notices and other events make no row.", FOLD, [TOKENS[name]], 0, "1 accepted\nrows 0 tokens 1\n")
+
+
+def fold_by_rs256():
+    words = ["fold", ISS, AUD, FIRST.word()]
+    good = rs256(rs256_header(kid="any"), claims(), FIRST)
+    case("A token that is signed by RS256, and its repeat; the key has no name.", words, [good, good], 0, "1 accepted\n2 seen\n" + GOOD_ROW)
+    case("The same under a key of 3,000 bits.", ["fold", ISS, AUD, THIRD.word()], [rs256(RS256, claims(), THIRD)], 0, "1 accepted\n" + GOOD_ROW)
+    for why, token, verdict in [
+        ("another key", rs256(RS256, claims(), OTHER), "invalid_key mac"),
+        ("an HMAC under the text of the public key (RFC 8725, section 2.1)", confused(header(), public_key_pem(FIRST).encode()), "invalid_key kid"),
+        ("an HMAC where a signature should be", confused(RS256, public_key_pem(FIRST).encode()), "invalid_key mac"),
+        ("a good token by HS256", TOKENS["GOOD"], "invalid_key kid"),
+        ("RS512", rs256(rs256_header(alg="RS512"), claims(), FIRST), "invalid_key alg"),
+        ("a name that is no text", rs256(rs256_header(kid=7), claims(), FIRST), "invalid_key kid"),
+    ]:
+        case(f"Under a public key: {why}.", words, [token], 0, f"1 refused {verdict}\n" + NONE)
+    case("A token by RS256 where the key is a secret.", FOLD, [good], 0, "1 refused invalid_key kid\n" + NONE)
+    case(
+        "The token of RFC 7515, appendix A.2: its signature is right, but it is no security event token.",
+        ["fold", "joe", "x", f"rs256:{part(A2['n'])}:{part(A2['e'])}"], [f"{A2['input'].decode()}.{part(A2['signature'])}"], 0, "1 refused invalid_request typ\n" + NONE,
+    )
 
 
 CREATE, POLL = "create acme {}", "poll acme acme-1 32"
@@ -333,6 +386,6 @@ def files():
     """What is stored beside the crate, by its path."""
     cases.clear()
     answers.clear()
-    for part in (usage, fold, refusals, streams, messages, crashes, statuses, scripts):
-        part()
+    for task in (usage, fold, fold_by_rs256, refusals, streams, messages, crashes, statuses, scripts):
+        task()
     return {"crates/sig_runs/stdin": "\n".join(cases).encode(), "crates/sig_runs/stdout": "".join(answers).encode()}

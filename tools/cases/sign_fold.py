@@ -1,7 +1,8 @@
-"""The tokens of the examples and of the runs of `fold`, by Python's own hmac, base64 and json.
+"""The tokens of the examples and of the runs of `fold`, by Python's own hmac, pow, base64 and json.
 
 `make_runs.py` takes those of its runs by their names. Nothing here comes from the program under test.
 """
+from cases.rsa_keys import FIRST, OTHER, RS256, confused, public_key_pem, rs256, rs256_header, with_signature
 from cases.sign_tokens import AUD, CAEP, EMAIL, GOOD, HEADER, RISC, claims, filled, header, part, signed, subject, text
 
 SSF = "https://schemas.openid.net/secevent/ssf/event-type/"
@@ -76,12 +77,28 @@ EXAMPLES = [
     signed(HEADER, claims(events={CAEP + "credential-change": {"credential_type": "password", "change_type": "lost"}})),
 ]
 
+# Tokens of a provider that signs by RS256, whose public key is `examples/provider.pem`.
+PEM = public_key_pem(FIRST)
+PROVIDED = rs256(rs256_header(kid="2026-11"), claims(), FIRST)
+OF_A_PROVIDER = [
+    PROVIDED,
+    PROVIDED,
+    rs256(RS256, claims(jti="2", sub_id=subject(format="opaque", id="s-78")), FIRST),
+    rs256(rs256_header(kid="2026-11"), claims(jti="3"), OTHER),
+    confused(header(kid="2026-11"), PEM.encode()),
+    rs256(rs256_header(alg="RS512"), claims(jti="4"), FIRST),
+    with_signature(RS256, claims(jti="5"), lambda front: FIRST.sign(front)[:-1]),
+    part(text(RS256)) + "." + part(text(claims(jti="6"))) + ".",
+    rs256(RS256, claims(jti="7", aud="https://other.example"), FIRST),
+]
+
 # A session is established and then revoked; the first token is brought again, and one is signed under another key.
 ESTABLISHED = token("1", subject(format="opaque", id="s-77"), CAEP + "session-established")
 GUARD = [ESTABLISHED, GOOD, ESTABLISHED, signed(HEADER, claims(), b"f" * 32)]
 
 
 def files():
-    """The tokens of the examples and of `sig_guard`, by the paths of the files that have them."""
-    named = {"examples/tokens.txt": EXAMPLES, "crates/sig_guard/stdin": GUARD}
-    return {path: "".join(line + "\n" for line in lines).encode() for path, lines in named.items()}
+    """The tokens of the examples and of `sig_guard`, by the paths of the files that have them, and the key of the provider."""
+    named = {"examples/tokens.txt": EXAMPLES, "examples/rs256.txt": OF_A_PROVIDER, "crates/sig_guard/stdin": GUARD}
+    found = {path: "".join(line + "\n" for line in lines).encode() for path, lines in named.items()}
+    return {**found, "examples/provider.pem": PEM.encode()}

@@ -3,8 +3,8 @@ answers to them by `models/answers.py`.
 
 In these files a line that begins with `#` says what the next cases show; one that begins with `> ` is the answer to the
 case before it, given by a standard or worked out by hand; any other line is a case. `<%..%>` stands for the text of a
-Python expression over the names of `sign_tokens.py`, `word`, which spells bytes, and `b`, raw bytes. Each answer is
-computed; where it isn't the one that stands by hand, nothing is made.
+Python expression over the names of `sign_tokens.py`, `rsa_keys.py` and `wrong_signatures.py`, `word`, which spells bytes,
+and `b`, raw bytes. Each answer is computed; where it isn't the one that stands by hand, nothing is made.
 
 Nothing here comes from the program under test.
 """
@@ -12,24 +12,26 @@ import pathlib
 import re
 import sys
 
-from cases import call_cases, delivery_cases, http_cases, record_cases, route_cases, sign_tokens, stream_cases, walk_calls, walk_cases
+from cases import call_cases, captured_cases, delivery_cases, http_cases, record_cases, route_cases, rsa_keys, sign_tokens
+from cases import stream_cases, walk_calls, walk_cases, wrong_signatures
 from models import streams
 from models.answers import Answers, Turns, answer_all
 from models.values import dump, word
 
 PARTS = [
     "base", "subjects", "events", "tokens", "standards", "effects", "verdicts", "walk", "streams", "messages", "http", "records",
-    "delivery", "bodies", "routes", "replies", "lines",
+    "delivery", "bodies", "routes", "replies", "rs256", "captured", "lines",
 ]
 TURNS = ["calls", "walk_calls"]
 MADE = {
-    "walk": walk_cases, "streams": stream_cases, "http": http_cases, "records": record_cases, "routes": route_cases,
+    "captured": captured_cases, "walk": walk_cases, "streams": stream_cases, "http": http_cases, "records": record_cases, "routes": route_cases,
     "delivery": delivery_cases, "calls": call_cases, "walk_calls": walk_calls,
 }
 
 
 def names():
-    known = {name: value for name, value in vars(sign_tokens).items() if not name.startswith("_")}
+    parts = (rsa_keys, wrong_signatures, sign_tokens)
+    known = {name: value for part in parts for name, value in vars(part).items() if not name.startswith("_")}
     known.update({name: token for name, token, _ in sign_tokens.TABLE})
     known.update({name: sign_tokens.signed(sign_tokens.HEADER, made) for name, made, _ in sign_tokens.EXAMPLES})
     return dict(known, word=word, dump=dump, SUPPORTED=streams.PUBLISHED)

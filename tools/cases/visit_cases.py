@@ -1,11 +1,14 @@
 """The stored run of `sig_visits`: what links are written and what a fetch sends, byte for byte, by RFC 8935, RFC 8936, RFC 9112
 and docs/FORMATS.md alone.
 
-Tokens are signed by Python's own hmac (`sign_tokens.py`), and nothing here comes from the program under test.
+Tokens are signed by Python's own hmac and pow (`sign_tokens.py`, `rsa_keys.py`), and nothing here comes from the program under test.
 """
 import base64
 import json
 
+from cases.key_cases import BAD, GOOD
+from cases.rs256_tokens import KEYS
+from cases.rsa_keys import FIRST, OTHER, confused, public_key_pem, rs256, rs256_header
 from cases.sign_tokens import JOE, claims, header, opaque, signed
 
 SETTINGS = {
@@ -154,11 +157,41 @@ def fetches():
     yield fetch("A peer that isn't there any more.", 5, [page(**{"t-01": named["t-01"]})], "dial", polled())
 
 
+def with_keys(keys):
+    """Settings whose first issuer has these keys."""
+    return {**SETTINGS, "issuers": [{"iss": "https://idp.example", "keys": keys}, *SETTINGS["issuers"][1:]]}
+
+
+def signed_by_rs256():
+    """Settings with public keys (RFC 7518, section 6.3.1), and pushes to a receiver that has one of them."""
+    for wanted, rows in ("refused issuers", BAD), ("ok", GOOD):
+        for why, keys in rows:
+            yield f"The keys of an issuer: {why}.", f"settings {text(with_keys(keys)).decode()}", wanted
+    issuers = [{"iss": iss, "keys": keys} for iss, keys in KEYS.items()]
+    yield "An issuer with a public key, and one with keys of both kinds.", f"settings {text({**SETTINGS, 'issuers': issuers}).decode()}", "ok"
+    good, taken = rs256(rs256_header(kid="2026-11"), claims(), FIRST).encode(), response(202)
+    yield link("A token that is signed by RS256 (RFC 7518, section 3.3), its repeat, and what is known then.", push(good) + push(good) + check("s-77"), "end",
+               taken * 2, response(200, REVOKED))
+    pem = public_key_pem(FIRST).encode()
+    other = claims(iss="https://other.example", jti="2")
+    yield link("Other keys, names and algorithms; and the public key as the secret of an HMAC (RFC 8725, section 2.1).",
+               push(rs256(rs256_header(), claims(), OTHER).encode()) + push(rs256(rs256_header(kid="2026-12"), claims(), FIRST).encode())
+               + push(rs256(rs256_header(alg="RS512"), claims(), FIRST).encode()) + push(confused(header(kid="2026-11"), pem).encode())
+               + push(confused(rs256_header(kid="2026-11"), pem).encode()) + push(token("2")),
+               "end", coded("invalid_key", "mac"), coded("invalid_key", "kid"), coded("invalid_key", "alg"), coded("invalid_key", "kid"),
+               coded("invalid_key", "mac"), coded("invalid_key", "kid"))
+    yield link("An issuer with keys of both kinds: a token by each, and the name of a key of the other kind (RFC 8725, section 3.1).",
+               push(rs256(rs256_header(), other, FIRST).encode(), "push-other") + push(signed(header(kid="k1"), dict(other, jti="3")).encode(), "push-other")
+               + push(signed(header(kid="2026-11"), dict(other, jti="4")).encode(), "push-other")
+               + push(rs256(rs256_header(kid="k1"), dict(other, jti="5"), FIRST).encode(), "push-other"),
+               "end", taken * 2, coded("invalid_key", "kid") * 2)
+
+
 def lines():
     yield "# Visits at a receiver (tools/cases/visit_cases.py). Settings by docs/FORMATS.md.", None
     yield f"settings {text({**SETTINGS, 'reader': 'no good'}).decode()}", "refused reader"
     yield f"settings {text(SETTINGS).decode()}", "ok"
-    for comment, asked, told in [*links(), *fetches()]:
+    for comment, asked, told in [*links(), *fetches(), *signed_by_rs256()]:
         yield f"# {comment}", None
         yield asked, told
     yield "link", "bad-case"

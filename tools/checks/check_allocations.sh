@@ -74,6 +74,7 @@ check_run() { # INPUT WORDS..
 }
 
 check_run examples/tokens.txt fold https://idp.example https://rp.example MDEyMzQ1Njc4OWFiY2RlZjAxMjM0NTY3ODlhYmNkZWY
+check_run examples/rs256.txt fold https://idp.example https://rp.example "$(python3 -B examples/public_key.py --word examples/provider.pem)"
 check_run examples/first.txt replay
 check_run examples/replay.txt replay
 python3 -B tools/checks/check_stops.py script >"$folder/stops.txt"

@@ -10,8 +10,8 @@ docs/FORMATS.md alone (`tools/models/table.py`).
 
     python3 -B tools/checks/check_receiver.py [PROGRAM [ROUNDS]]
 
-Before that it asks for single answers, each as worked out by hand (`receiver_rows.py`). Without a built program, or where no socket can
-be opened, it says that it is passed over.
+Before that it asks for single answers, each as worked out by hand (`receiver_rows.py`, and `rs256_rows.py` where issuers sign by
+RS256). Without a built program, or where no socket can be opened, it says that it is passed over.
 """
 import base64
 import http.client
@@ -27,7 +27,7 @@ import uuid
 
 sys.dont_write_bytecode = True
 sys.path.insert(0, os.path.join(os.path.dirname(os.path.abspath(__file__)), ".."))
-from checks import receiver_rows
+from checks import receiver_rows, rs256_rows
 from models.table import take, verdict
 from checks.check_server import Server
 from checks.receiver_rows import push, token
@@ -267,6 +267,8 @@ def main():
         return
     with tempfile.TemporaryDirectory() as room:
         receiver_rows.rows(Receiver(program, room), room)
+    with tempfile.TemporaryDirectory() as room:
+        rs256_rows.rows(program, room)
     with tempfile.TemporaryDirectory() as room:
         owed_by_fetch(program, room)
     with tempfile.TemporaryDirectory() as room:

@@ -1,4 +1,5 @@
 """Judging and reading of tokens (RFC 8417, section 2.2; the codes are those of RFC 8935, section 2.4)."""
+from models import rsa
 from models.events import check_event
 from models.subjects import is_subject
 from models.values import BadCase, Fault, NotJson, dump, key_of, mac, member, optional, read, split
@@ -74,20 +75,28 @@ def check_content(payload, named):
     return dump(dict(claims, aud=aud[0] if len(aud) == 1 else aud))
 
 
+def has_signed(key, covered, signed):
+    """Whether a third part is that of a text under a key (RFC 7518, sections 3.2 and 3.3)."""
+    if key["alg"] == "HS256":
+        return mac(key["key"], covered) == signed
+    return rsa.verifies(key["key"], covered, signed)
+
+
 def judge(trust, principal, named, data):
     check(principal is not None, "authentication_failed", "bearer")
     header, payload, signed = open_token(data)
     issuers = [issuer for issuer in trust["issuers"] if issuer["iss"] == payload["iss"]]
     check(issuers, "invalid_issuer", "iss")
     check(principal == payload["iss"], "access_denied", "iss")
-    check(header.get("alg") == "HS256", "invalid_key", "alg")
-    keys = issuers[0]["keys"]
+    check(header.get("alg") in ("HS256", "RS256"), "invalid_key", "alg")
+    # a key is for one algorithm (RFC 8725, section 3.1)
+    keys = [key for key in issuers[0]["keys"] if key["alg"] == header["alg"]]
     if "kid" in header:
         kid = header["kid"]
         keys = [key for key in keys if isinstance(kid, str) and key["kid"] in (None, kid)]
     check(keys, "invalid_key", "kid")
     covered = data.rsplit(b".", 1)[0]
-    check(any(mac(key["k"], covered) == signed for key in keys), "invalid_key", "mac")
+    check(any(has_signed(key, covered, signed) for key in keys), "invalid_key", "mac")
     check(trust["audience"] in (audience_of(payload) or []), "invalid_audience", "aud")
     return check_content(payload, named)
 
@@ -98,14 +107,22 @@ def claims_of(data):
     return check_content(payload, None)
 
 
+def read_key(value):
+    """A secret as its word, or a public key as a JWK (RFC 7518, section 6.3.1)."""
+    if not isinstance(value, dict):
+        raise BadCase
+    kid = optional(value, "kid", str)
+    if "n" in value:
+        return {"alg": "RS256", "key": rsa.read_jwk(value), "kid": kid}
+    secret = key_of(member(value, "k", str).encode())
+    if secret is None:
+        raise BadCase
+    return {"alg": "HS256", "key": secret, "kid": kid}
+
+
 def read_trust(case):
     issuers = []
     for issuer in member(case, "issuers", list):
-        keys = []
-        for key in member(issuer, "keys", list):
-            data = key_of(member(key, "k", str).encode())
-            if data is None:
-                raise BadCase
-            keys.append({"k": data, "kid": optional(key, "kid", str)})
+        keys = [read_key(key) for key in member(issuer, "keys", list)]
         issuers.append({"iss": member(issuer, "iss", str), "keys": keys})
     return {"audience": member(case, "audience", str), "issuers": issuers}

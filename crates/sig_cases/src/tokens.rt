@@ -5,10 +5,11 @@ ghost use Rattle.sig_set.specs.Judgement.{judged, result_of};
 ghost use Rattle.sig_set.specs.Reading.{claims_read};
 ghost use Rattle.sig_cases.specs.Told as spec;
 
-use sig_json::{Bytes, Items, Memory, Text, Value, list_of, text_of};
+use sig_json::{Bytes, Items, Memory, Text, Value, list_of, present, text_of};
 use sig_jws::{Key, key_of};
 use sig_lines::{copy_member, is_text_or_missing, said, spelled};
-use sig_set::{Claims, ClaimsFault, Issuer, Refusal, Trust, claims_of, payload_text};
+use sig_rs256::RsaKey;
+use sig_set::{Claims, ClaimsFault, Issuer, Refusal, Trust, claims_of, payload_text, rsa_key_of};
 use std::alloc::Global;
 
 /// Nobody, for the empty audience.
@@ -52,21 +53,42 @@ fn issuer(alloc: Global, value: &Value) -> Result<Option<Issuer>, Memory> {
     let (Some(iss), Some(list)) = (text_of(value, "iss"), list_of(value, "keys")) else {
         return Ok(None);
     };
-    let Some(keys) = keys(alloc, list.as_slice())? else {
+    let Some(keys) = secrets(alloc, list.as_slice())? else {
+        return Ok(None);
+    };
+    let Some(public_keys) = public_keys(alloc, list.as_slice())? else {
         return Ok(None);
     };
     Ok(Some(Issuer {
         iss: Text::of(alloc, iss)?,
         keys,
+        public_keys,
     }))
 }
 
-fn keys(alloc: Global, list: &[Value]) -> Result<Option<Items<Key>>, Memory> {
+// The keys of a list that have no modulus.
+fn secrets(alloc: Global, list: &[Value]) -> Result<Option<Items<Key>>, Memory> {
     let mut keys = Vec::new(alloc);
     for value in list {
-        match key(alloc, value)? {
-            Some(key) => keys.push(key)?,
-            None => return Ok(None),
+        if !present(value, "n") {
+            match key(alloc, value)? {
+                Some(key) => keys.push(key)?,
+                None => return Ok(None),
+            }
+        }
+    }
+    Ok(Some(Items::of(keys)))
+}
+
+// The keys of a list that have one.
+fn public_keys(alloc: Global, list: &[Value]) -> Result<Option<Items<RsaKey>>, Memory> {
+    let mut keys = Vec::new(alloc);
+    for value in list {
+        if present(value, "n") {
+            match public_key(alloc, value)? {
+                Some(key) => keys.push(key)?,
+                None => return Ok(None),
+            }
         }
     }
     Ok(Some(Items::of(keys)))
@@ -86,6 +108,26 @@ fn key(alloc: Global, value: &Value) -> Result<Option<Key>, Memory> {
         kid: copy_member(alloc, value, "kid")?,
         bytes,
     }))
+}
+
+fn public_key(alloc: Global, value: &Value) -> Result<Option<RsaKey>, Memory> {
+    let (Some(n), Some(e)) = (text_of(value, "n"), text_of(value, "e")) else {
+        return Ok(None);
+    };
+    let is_named = is_said(value, "kty", "RSA") && is_said(value, "alg", "RS256");
+    if !is_named || present(value, "k") || !is_text_or_missing(value, "kid") {
+        return Ok(None);
+    }
+    let kid = copy_member(alloc, value, "kid")?;
+    rsa_key_of(alloc, kid, n, e)
+}
+
+// Whether a member is this text.
+fn is_said(value: &Value, name: &str, text: &str) -> bool {
+    match text_of(value, name) {
+        Some(said) => said == text,
+        None => false,
+    }
 }
 
 /// `valid` and the payload of the claims, or the code and the spot of the first check that fails; none where the rest is
