@@ -1,7 +1,8 @@
--- A turn that no push round follows, in the log and at the taker.
-use Rattle.std.proofs.Common.{◌≡◌, ℕ, true, false, List, [], ◌∷◌, ◌++◌, Option, Some, None, inr, refl, sym}
+-- A turn in the log and at the taker, and the push rounds that follow it, or none.
+use Rattle.std.proofs.Common.{◌≡◌, ℕ, Bool, true, false, List, [], ◌∷◌, ◌++◌, Option, Some, None, inl, inr, refl, sym, ap, ◌∙◌, append_assoc}
 use Rattle.std.specs.Prelude.{IsSome}
 use Rattle.sig_links.specs.Views.{SideView}
+use Rattle.sig_round.specs.Rounds.{AllRounded, AreRounds}
 use Rattle.sig_round.specs.Turns.{Asker}
 use Rattle.sig_round.proofs.Grown.{grew_none}
 use Rattle.sig_terms.specs.declared.rules.Rules.{Rules}
@@ -18,6 +19,10 @@ rounds_none rules by given a is = rw (sym is) (refl, refl, refl)
 rounds_out : (rules : Rules) (by : Asker) (given : Option (List (List ℕ))) (a : SideView) → IsSome given → AreRoundsOver rules by given a a [] true
 rounds_out rules by None a some = absurd (cc some)
 rounds_out rules by (Some streams) a some = inr (refl, refl, refl)
+
+rounds_some : (rules : Rules) (by : Asker) (streams : List (List ℕ)) (given : Option (List (List ℕ))) (a b : SideView) (more : List Turn) (starved : Bool)
+    → Some streams ≡ given → AreRounds rules by streams a b more starved → AreRoundsOver rules by given a b more starved
+rounds_some rules by streams given a b more starved is h = rw (sym is) (inl h)
 
 module _ (rules : Rules) (turn : Turn) (a : SideView) (x z : List Turn) (k : Option TakerTold) (kept : z ≡ x ++ turn ∷ []) where
   -- its answer names no streams
@@ -36,4 +41,15 @@ module _ (rules : Rules) (turn : Turn) (a : SideView) (x z : List Turn) (k : Opt
     log = kept;
     taker = grew_none k;
     follows = rounds_out rules (record { link = turn.link; now = turn.now }) (streams_in turn.result) a some;
+  }
+
+  -- or the rounds of these streams follow
+  pub follows_rounds : (streams : List (List ℕ)) (b : SideView) (z' : List Turn) (k' : Option TakerTold) (starved : Bool)
+      → Some streams ≡ streams_in turn.result → AllRounded rules (record { link = turn.link; now = turn.now }) streams a b z z' k k' starved
+      → Continues transmitter rules (Turned turn) starved x z' k k' a b
+  follows_rounds streams b z' k' starved is r = record {
+    more = r.more;
+    log = r.adds.log ∙ ap (λ (ts : List Turn). ts ++ r.more) kept ∙ append_assoc x (turn ∷ []) r.more;
+    taker = r.adds.taker;
+    follows = rounds_some rules (record { link = turn.link; now = turn.now }) streams (streams_in turn.result) a b r.more starved is r.rounds;
   }
