@@ -1,5 +1,5 @@
 -- The issuers that a receiver trusts.
-use Rattle.std.specs.Prelude.{ℕ, ◌&&◌, List, length, Bool, nat_le, nat_lt, Option, Some, None, option_and_then, codes, if◌then◌else◌}
+use Rattle.std.specs.Prelude.{ℕ, ◌&&◌, List, [], length, Bool, nat_le, nat_lt, Option, Some, None, option_and_then, codes, if◌then◌else◌}
 use Rattle.serde_json.specs.Data.{Data}
 use Rattle.serde_json.specs.Find.{as_str}
 use Rattle.sig_json.specs.declared.limits.TheConstants.{ISSUERS, KEYS_PER_ISSUER}
@@ -25,7 +25,7 @@ abbrev pub issuer_at : Data → Option Issuer
 issuer_at d = do
   iss ← member_at as_str (codes "iss") d
   keys ← member_at keys_at (codes "keys") d
-  Some (record { iss = iss; keys = keys })
+  Some (record { iss = iss; keys = keys; public_keys = [] })
 
 abbrev pub name_of : Issuer → List ℕ
 name_of i = i.iss

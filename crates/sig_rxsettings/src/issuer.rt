@@ -59,7 +59,11 @@ impl SettingKind for IssuerObject {
         let Some(keys) = member_in::<KeyList>(alloc, value, "keys")? else {
             return Ok(None);
         };
-        Ok(Some(Issuer { iss, keys }))
+        Ok(Some(Issuer {
+            iss,
+            keys,
+            public_keys: Items::of(Vec::new(alloc)),
+        }))
     }
 }
 
