@@ -23,12 +23,11 @@ use Rattle.sig_jws.proofs.SignedLemmas.{gives_back}
 use Rattle.sig_rs256.specs.Keys.{PublicKey}
 use Rattle.sig_subject.proofs.Passing.{Passes, passes_append}
 use Rattle.sig_event.specs.declared.claims.Claims.{Claims}
-use Rattle.sig_set.specs.declared.header.Algorithm.TheVariants.{Hs256}
 use Rattle.sig_set.specs.declared.trust.Issuer.{Issuer}
 use Rattle.sig_set.specs.declared.trust.Trust.{Trust}
 use Rattle.sig_set.specs.declared.writing.WriteFault.TheVariants.{TooLong}
 use Rattle.sig_set.specs.Claims.{ClaimsAre, claims_in, content_checks}
-use Rattle.sig_set.specs.Header.{algorithm_in, has_candidate, has_mac, is_candidate, is_verified, kid_in, secret_name}
+use Rattle.sig_set.specs.Header.{has_candidate, has_mac, is_candidate, is_verified, kid_in, secret_name}
 use Rattle.sig_set.specs.Judgement.{Valid, audience_checks, bearer_checks, checks, claims_of, form_checks, header_in, issuer_checks, issuer_in, issuer_named, judged, judged_by, key_checks, keys_in, payload_in, public_keys_in, token_in, trust_checks}
 use Rattle.sig_set.specs.Laws.{AreJudgedValid, IsNameOr, IsTrusted}
 use Rattle.sig_set.specs.Tests.{is_filled_and_wanted}
@@ -116,11 +115,6 @@ fits_kid : (key : Key) (kid : Option (List ℕ)) → key.kid ≡ kid → is_cand
 fits_kid key None is = refl
 fits_kid key (Some kid) is = rw is (bytes_same kid)
 
--- the header of a written token says HS256, whatever it names
-algorithm_there : (kid : Option (List ℕ)) → algorithm_in (Some (header_of kid)) ≡ Some Hs256
-algorithm_there None = refl
-algorithm_there (Some kid) = refl
-
 key_passes : (claims : Claims) (key : Key) (keys : List Key) (public_keys : List PublicKey) → Contains keys key
     → Passes (key_checks (Some (held claims key)) (Some (header_of key.kid)) keys public_keys)
 key_passes claims key keys public_keys among =
@@ -130,7 +124,7 @@ key_passes claims key keys public_keys among =
     let candidate : has_candidate secret_name kid keys ≡ true = finds (λ (k : Key). is_candidate kid k.kid) keys key among fits in
     let verified : is_verified secret_name (has_mac (Some (held claims key))) kid keys ≡ true =
     finds (λ (k : Key). is_candidate kid k.kid && has_mac (Some (held claims key)) k) keys key among signs in
-    rw (algorithm_there key.kid, candidate, verified) refl
+    rw (candidate, verified) refl
 
 audience_passes : (trust : Trust) (claims : Claims) (key : Key) (v : Data) → ClaimsAre claims v → IsTrusted trust claims key → Passes (audience_checks trust.audience (Some v))
 audience_passes trust claims key v says t =

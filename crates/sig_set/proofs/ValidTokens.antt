@@ -1,5 +1,5 @@
 -- What is judged valid is the signing of what it says, by a key that is trusted.
-use Rattle.std.proofs.Common.{◌≡◌, ◌∙◌, ◌≤◌, ◌++◌, ◌&&◌, ◌||◌, ℕ, ◌<◌, suc, List, [], ◌∷◌, Bool, true, false, Contains, Option, Some, None, get_or, inl, inr, not, is_some, option_and_then, option_map, unwrap_or, refl, ap, sym, subst, arith}
+use Rattle.std.proofs.Common.{◌≡◌, ◌∙◌, ◌≤◌, ◌++◌, ◌&&◌, ◌||◌, ℕ, suc, List, [], ◌∷◌, Bool, true, false, Contains, Option, Some, None, get_or, inl, inr, not, is_some, option_and_then, option_map, unwrap_or, refl, ap, sym, subst, arith}
 use Rattle.std.specs.Prelude.{Ok, Err, Result, bytes_eq, codes, if◌then◌else◌, is_ok, length}
 use Rattle.std.specs.List.{list_any}
 use Rattle.std.specs.Result.{result_ok}
@@ -19,8 +19,8 @@ use Rattle.sig_jws.specs.declared.compact.SplitFault.{SplitFault}
 use Rattle.sig_jws.specs.declared.key.Key.{Key}
 use Rattle.sig_jws.proofs.SpellingLemmas.{signed_where_verified, spelled}
 use Rattle.sig_rs256.specs.Keys.{PublicKey}
-use Rattle.sig_rs256.specs.Signatures.{IsSignature, is_signature}
-use Rattle.sig_rs256.proofs.SignatureLemmas.{is_signature_tells}
+use Rattle.sig_rs256.specs.Signatures.{IsSignature}
+use Rattle.sig_rs256.proofs.SignatureLemmas.{decides_signatures}
 use Rattle.sig_event.specs.declared.claims.Claims.{Claims}
 use Rattle.sig_set.specs.declared.header.Algorithm.{Algorithm}
 use Rattle.sig_set.specs.declared.header.Algorithm.TheVariants.{Hs256, Rs256}
@@ -30,7 +30,7 @@ use Rattle.sig_set.specs.Checks.{Fault}
 use Rattle.sig_set.specs.Claims.{ClaimsAre, audience_in, claims_in, content_checks}
 use Rattle.sig_set.specs.Header.{algorithm_in, algorithm_named, has_mac, has_signature, is_candidate, is_signed, kid_in}
 use Rattle.sig_set.specs.Judgement.{Valid, bearer_checks, checks, claims_of, form_checks, header_checks, header_in, issuer_in, issuer_named, judged, keys_in, payload_checks, payload_in, public_keys_in, speaks_for, token_in, trust_checks}
-use Rattle.sig_set.specs.Laws.{AreUnderTheirAlgorithm, IsNameOr, IsUnderItsAlgorithm, IsValid, IsValidWhereJudged, SaysAlgorithm, SignedBy, UnderPublicKey, UnderSecret}
+use Rattle.sig_set.specs.Laws.{AreUnderTheirAlgorithm, IsNameOr, IsUnderItsAlgorithm, IsValidWhereJudged, SaysAlgorithm, SignedBy, UnderPublicKey, UnderSecret}
 use Rattle.sig_set.specs.Tests.{is_filled, is_filled_and_wanted, is_text, where_there}
 use Rattle.sig_subject.proofs.Passing.{Passes, passes_back}
 use Rattle.sig_set.proofs.ReadsClaims.{AllHold, all_hold, reads_claims}
@@ -123,7 +123,7 @@ signer_there issuer token head (Some Rs256) is h =
     let kid = kid_in (Some head) in
     let key = found (λ (k : PublicKey). is_candidate kid k.kid && has_signature (Some token) k) issuer.public_keys h in
     let both = and_parts (is_candidate kid key.0.kid) (has_signature (Some token) key.0) key.2 in
-    public_key (algorithm_tells (text_member (codes "alg") head) Rs256 is) key.0 key.1 both.0 ((is_signature_tells key.0 token.input token.mac).0 both.1)
+    public_key (algorithm_tells (text_member (codes "alg") head) Rs256 is) key.0 key.1 both.0 ((decides_signatures key.0 token.input token.mac).0 both.1)
 
 -- what it signed is the text
 signed_by : (issuer : Issuer) (token : Compact) (head : Data) (text : List ℕ) → IsBytes text → split_of text ≡ Ok token → Signer issuer token head

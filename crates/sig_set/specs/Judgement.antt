@@ -5,7 +5,7 @@ use Rattle.std.specs.Result.{result_ok}
 use Rattle.std.specs.List.{list_any}
 use Rattle.serde_json.specs.Data.{Data}
 use Rattle.sig_json.specs.Checks.{Check, first_failing}
-use Rattle.sig_json.specs.Json.{json_of, member_of, text_member}
+use Rattle.sig_json.specs.Json.{json_of, member_of}
 use Rattle.sig_json.specs.Members.{is_object}
 use Rattle.sig_json.specs.declared.limits.TheConstants.{TOKEN_BYTES}
 use Rattle.sig_jws.specs.Compact.{split_of}

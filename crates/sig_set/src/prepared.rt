@@ -129,10 +129,7 @@ fn prepared_keys(alloc: Global, keys: &[Key]) -> Result<Items<PreparedKey>, Memo
     Ok(Items::of(prepared))
 }
 
-fn prepared_public_keys(
-    alloc: Global,
-    keys: &[RsaKey],
-) -> Result<Items<PreparedRsaKey>, Memory>
+fn prepared_public_keys(alloc: Global, keys: &[RsaKey]) -> Result<Items<PreparedRsaKey>, Memory>
     ensures { IfOk result (λ prepared. prepared ≡ keys.now) }
 {
     let mut prepared = Vec::new(alloc);
