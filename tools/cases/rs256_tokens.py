@@ -15,7 +15,7 @@ import sys
 
 sys.dont_write_bytecode = True
 sys.path.insert(0, os.path.join(os.path.dirname(os.path.abspath(__file__)), ".."))
-from cases.rsa_keys import FIRST, OTHER, SECOND, confused, public_key_pem
+from cases.rsa_keys import FIRST, OTHER, SECOND, bytes_of, confused, public_key_pem
 from cases.sign_tokens import KEY, SECOND_KEY, part
 
 IDP, SECOND_IDP = "https://idp.example", "https://other.example"
@@ -35,11 +35,10 @@ def claims(number, iss, **changes):
 
 def members(key):
     """A private key as a JWK (RFC 7518, section 6.3.2)."""
-    spelled = lambda number: part(number.to_bytes((number.bit_length() + 7) // 8, "big"))
     first, second = key.first, key.second
     secret = pow(key.exponent, -1, (first - 1) * (second - 1))
     made = {"d": secret, "p": first, "q": second, "dp": secret % (first - 1), "dq": secret % (second - 1), "qi": pow(second, -1, first)}
-    return {**{name: spelled(number) for name, number in made.items()}, "n": key.jwk()["n"], "e": key.jwk()["e"], "kty": "RSA"}
+    return {**{name: part(bytes_of(number)) for name, number in made.items()}, **key.jwk(alg=None)}
 
 
 def signed(header, payload, key):
