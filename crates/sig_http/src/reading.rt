@@ -8,7 +8,7 @@ ghost use Rattle.sig_http.specs.Message.{Reads, ReadsResponseOf, Refuses, Refuse
 
 use crate::body::{Body, read_body};
 use crate::head::{request_head, response_head};
-use crate::piece::take_piece;
+use crate::piece::{Room, take_piece};
 use crate::section::{START, Section, scan_section};
 use crate::{Got, HttpFault, Kept, Request, Response};
 use sig_json::Bytes;
@@ -40,13 +40,14 @@ pub fn read_request<S: Source>(
     ensures beside { S.beside source.new ≡ S.beside source.old }
     ensures later { S.faults source.old ≤ S.faults source.new }
 {
+    let mut room = Room::new(alloc)?;
     let mut held = kept.take(alloc);
-    let Some(count) = take_section(&mut held, source)? else {
+    let Some(count) = take_section(&mut held, source, &mut room)? else {
         return Ok(Got::End);
     };
     let after = held.split_off(count)?;
     let (mut request, framing) = request_head(alloc, held.as_slice())?;
-    let body = read_body(alloc, source, REQUEST_BODY_BYTES, framing, after)?;
+    let body = read_body(alloc, source, &mut room, REQUEST_BODY_BYTES, framing, after)?;
     kept.put(body.rest);
     request.body = Bytes::from_vec(body.content);
     Ok(Got::Request(request))
@@ -74,20 +75,32 @@ pub fn read_response<S: Source>(
     ensures beside { S.beside source.new ≡ S.beside source.old }
     ensures later { S.faults source.old ≤ S.faults source.new }
 {
+    let mut room = Room::new(alloc)?;
     let mut held = kept.take(alloc);
-    let Some(count) = take_section(&mut held, source)? else {
+    let Some(count) = take_section(&mut held, source, &mut room)? else {
         return Err(HttpFault::Cut);
     };
     let after = held.split_off(count)?;
     let (mut response, framing) = response_head(alloc, held.as_slice())?;
-    let body = read_body(alloc, source, RESPONSE_BODY_BYTES, framing, after)?;
+    let body = read_body(
+        alloc,
+        source,
+        &mut room,
+        RESPONSE_BODY_BYTES,
+        framing,
+        after,
+    )?;
     kept.put(body.rest);
     response.body = Bytes::from_vec(body.content);
     Ok(response)
 }
 
 // Takes a whole head section, and answers how long it is; none where the source gives no byte.
-fn take_section<S: Source>(held: &mut Vec<u8>, source: &mut S) -> Result<Option<usize>, HttpFault>
+fn take_section<S: Source>(
+    held: &mut Vec<u8>,
+    source: &mut S,
+    room: &mut Room,
+) -> Result<Option<usize>, HttpFault>
     ensures draws { Draws held.old.items held.new.items (S.left source.old) (S.left source.new) }
     ensures taken { IfOk result (λ taken. TakesSection taken held.new.items (S.left source.new)) }
     ensures bound { IfOk result (λ taken. IfSome taken (λ count. length held.new.items ≤ count + max (length held.old.items) PIECE_BYTES)) }
@@ -105,7 +118,7 @@ fn take_section<S: Source>(held: &mut Vec<u8>, source: &mut S) -> Result<Option<
             Section::Long => return Err(HttpFault::HeadLong),
         }
         judged = held.len();
-        if take_piece(held, source)? == 0 {
+        if take_piece(held, source, room)? == 0 {
             return if judged == 0 {
                 Ok(None)
             } else {
