@@ -24,6 +24,7 @@ HEADS = {
     "request": re.compile(rb"(?:\r?\n)*" + REQUEST_LINE + rb"((?:" + FIELD + rb")*)" + END),
     "response": re.compile(rb"(?:\r?\n)*" + STATUS_LINE + rb"((?:" + FIELD + rb")*)" + END),
 }
+ABSOLUTE = re.compile(r"https?://[^/]*(/.*)?", re.ASCII | re.DOTALL | re.IGNORECASE)
 CHUNK_LINE = re.compile(rb"([0-9A-Fa-f]{1,16})[ \t]*(?:;[^\r\n]*)?\r\n")
 
 
@@ -76,7 +77,7 @@ def framing_of(kind, status, fields):
         raise Fault("length")
     if codings and (lengths or len(codings) > 1 or codings[0].lower() != b"chunked"):
         raise Fault("length")
-    if kind == "response" and status in (204, 304):
+    if kind == "response" and (status in (204, 304) or 100 <= status < 200):
         return 0
     if codings:
         return "chunked"
@@ -161,6 +162,12 @@ def bearer_of(fields):
     return None
 
 
+def path_of(target):
+    """The path of a target without its query: that of the absolute form follows its authority."""
+    found = ABSOLUTE.fullmatch(target)
+    return target if found is None else found[1] or "/"
+
+
 def closes(minor, fields):
     words = [word.strip(b" \t").lower() for value in values(fields, b"connection") for word in value.split(b",")]
     return minor == b"0" or b"close" in words
@@ -174,14 +181,18 @@ def read(kind, data):
         raise Fault("head")
     if kind == "request":
         method, target, minor, text = head.groups()
-        if text_of(target) is None:
+        if text_of(target) is None or b"#" in target:
             raise Fault("head")
         fields, status = fields_of(text), None
-        if values(fields, b"expect"):
+        hosts = len(values(fields, b"host"))
+        if hosts > 1 or hosts == 0 and minor == b"1":
+            raise Fault("host")
+        if values(fields, b"expect") and minor == b"1":
             raise Fault("expect")
         if any(coding.lower() != b"identity" for coding in values(fields, b"content-encoding")):
             raise Fault("coding")
         path, _, query = text_of(target).partition("?")
+        path = path_of(path)
         message = {"bearer": bearer_of(fields), "method": method.decode(), "path": path, "query": query}
     else:
         minor, digits, text = head.groups()

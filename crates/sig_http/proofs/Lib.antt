@@ -8,6 +8,7 @@ pub mod PieceLemmas
 pub mod ReadingLemmas
 pub mod ResponseLemmas
 pub mod SectionLemmas
+pub mod TargetLemmas
 pub mod TextLemmas
 pub mod TokenLemmas
 pub mod NumberLemmas

@@ -3,7 +3,7 @@ use Rattle.std.specs.Prelude.{ℕ, true, false, List, [], ◌∷◌, ◌++◌, O
 use Rattle.serde_json.specs.Data.{string}
 use Rattle.serde_json.specs.Written.{compact_text}
 use Rattle.sig_http.specs.declared.fault.HttpFault.{HttpFault}
-use Rattle.sig_http.specs.declared.fault.HttpFault.TheVariants.{Head, HeadLong, Length, BodyLong, Coding, Expect, Cut, Link, Memory}
+use Rattle.sig_http.specs.declared.fault.HttpFault.TheVariants.{Head, Host, HeadLong, Length, BodyLong, Coding, Expect, Cut, Link, Memory}
 use Rattle.sig_http.specs.declared.fault.HttpRefusal.{HttpRefusal}
 use Rattle.sig_http.specs.declared.fault.HttpRefusal.TheVariants as refusals
 use Rattle.sig_http.specs.declared.message.Response.{Response}
@@ -24,6 +24,7 @@ bad_request body = record {
 -- the response to a fault (RFC 9110, sections 15.5.1, 15.5.14, 15.5.16, 15.5.18; RFC 6585, section 5)
 abbrev pub closing_of : HttpFault → Option Response
 closing_of Head = Some (bad_request (codes "{\"description\":\"head\",\"err\":\"invalid_request\"}"))
+closing_of Host = Some (bad_request (codes "{\"description\":\"host\",\"err\":\"invalid_request\"}"))
 closing_of HeadLong = Some (closing 431)
 closing_of Length = Some (bad_request (codes "{\"description\":\"length\",\"err\":\"invalid_request\"}"))
 closing_of BodyLong = Some (closing 413)

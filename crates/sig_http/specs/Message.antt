@@ -6,6 +6,7 @@ use Rattle.sig_json.specs.declared.limits.TheConstants.{HEADER_FIELDS, REQUEST_B
 use Rattle.httparse.specs.Grammar.{RequestHead, ResponseHead, ReadsRequest, ReadsResponse, status_code}
 use Rattle.httparse.specs.Spans.{name_and_value}
 use Rattle.sig_http.specs.Section.{start, section_from}
+use Rattle.sig_http.specs.Targets.{path_in}
 use Rattle.sig_http.specs.Values.{after_bearer}
 use Rattle.sig_http.specs.Faults.{OnFault}
 use Rattle.sig_http.specs.Fields.{first_value, closes}
@@ -64,7 +65,7 @@ is_closing minor fields = (minor == 0) || closes fields
 abbrev pub request_from : List ℕ → List ℕ → ℕ → List (List ℕ × List ℕ) → List ℕ → Request
 request_from method target minor fields content = record {
   method = method;
-  path = before_first is_question_mark target;
+  path = path_in (before_first is_question_mark target);
   query = after_first is_question_mark target;
   bearer = bearer_of (first_value (codes "authorization") fields);
   close = is_closing minor fields;
@@ -136,7 +137,7 @@ DecidesBy {H = H} Finds kind bytes outcome (Ended n) = (found : Option H) × Fin
 abbrev pub requests : Kind Request RequestHead
 requests = record {
   limit = REQUEST_BODY_BYTES;
-  fault = λ head. request_fault (request_fields head);
+  fault = λ head. request_fault head.minor head.target (request_fields head);
   framing = λ head. request_framing (request_fields head);
   message = request_of;
 }

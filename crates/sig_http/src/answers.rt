@@ -10,7 +10,7 @@ use std::alloc::Global;
 /// The response with which a server answers a request that can't be read, after which it closes the link. There is none
 /// exactly for `Cut`, `Link` and `Memory`.
 ///
-/// A 400 names the place that is wrong, `head` or `length`, in the form of RFC 8935 section 2.3; the others have no body.
+/// A 400 names the place that is wrong, `head`, `host` or `length`, in the form of RFC 8935 section 2.3; the others have no body.
 pub fn fault_of(alloc: Global, fault: &HttpFault) -> Result<Option<Response>, Memory>
     ensures { IfOk result (λ response. response ≡ spec.closing_of fault.now) }
 {
@@ -18,6 +18,10 @@ pub fn fault_of(alloc: Global, fault: &HttpFault) -> Result<Option<Response>, Me
         HttpFault::Head => Some(bad_request(
             alloc,
             b"{\"description\":\"head\",\"err\":\"invalid_request\"}",
+        )?),
+        HttpFault::Host => Some(bad_request(
+            alloc,
+            b"{\"description\":\"host\",\"err\":\"invalid_request\"}",
         )?),
         HttpFault::Length => Some(bad_request(
             alloc,

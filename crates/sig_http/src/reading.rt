@@ -20,7 +20,7 @@ use std::alloc::Global;
 ///
 /// `Got::End` comes exactly where the source ended before the first byte of a request. A fault is the one that the shortest
 /// prefix of the bytes decides, and of those that one prefix decides it is the first in the order of `HttpFault`'s head
-/// faults: `HeadLong`, `Head`, `Expect`, `Coding`, `Length`, `BodyLong`. `Cut` comes where the source ends before any is
+/// faults: `HeadLong`, `Head`, `Host`, `Expect`, `Coding`, `Length`, `BodyLong`. `Cut` comes where the source ends before any is
 /// decided, and `Link` exactly where one of its calls failed: the count of its faults is raised by one, and stays otherwise. After a fault the source isn't to be used any more.
 pub fn read_request<S: Source>(
     alloc: Global,
@@ -56,7 +56,7 @@ pub fn read_request<S: Source>(
 /// Reads the next response of a source, from the bytes that were kept of it on. The caller lends the same source each time.
 ///
 /// A response without a length and a coding ends where the source ends. `Cut` comes where the source ends within a
-/// response, and where it gives none; `Expect` and `Coding` never come, and the other faults as for requests.
+/// response, and where it gives none; `Host`, `Expect` and `Coding` never come, and the other faults as for requests.
 pub fn read_response<S: Source>(
     alloc: Global,
     source: &mut S,
