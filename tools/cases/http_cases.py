@@ -30,6 +30,18 @@ def reply(*fields, body=b"", status=b"200 OK"):
 
 
 CHUNKED = b"transfer-encoding: chunked"
+# As many bytes beside the content as a body of a request may have, in chunks of one byte and extensions that fill them.
+FRAME = BODY // 64 * 6 + 256 + 1024
+SPREAD = b"1;" + b"x" * 244 + b"\r\nb\r\n"
+FULL = SPREAD * (FRAME // 250 - 1)
+
+
+def padded(count):
+    """Chunks with their last one and an empty trailer section, and so many bytes beside their content."""
+    rest = count - 250 * (FRAME // 250 - 1) - 5 - 5
+    return FULL + b"1;" + b"x" * (rest // 2 - 1) + b"\r\nb\r\n" + b"0;" + b"x" * (rest - rest // 2 - 1) + b"\r\n\r\n"
+
+
 FILLED = b"f: " + b"v" * (HEAD - len(post(b"f: ")))
 
 # Each row: what it shows, the kind, the bytes, and the answer's first word.
@@ -114,6 +126,10 @@ ROWS = [
     ("65 fields", "request", post(*[b"f: 1"] * 64), "head-long"),
     ("a head of 16,384 bytes", "request", post(FILLED), "got"),
     ("a head of 16,385 bytes", "request", post(FILLED + b"v"), "head-long"),
+    ("as many bytes beside the content as may be", "request", post(CHUNKED, body=padded(FRAME)), "got"),
+    ("one more", "request", post(CHUNKED, body=padded(FRAME + 1)), "body-long"),
+    ("chunks of one byte", "request", post(CHUNKED, body=b"1\r\nb\r\n" * 1483 + b"0\r\n\r\n"), "got"),
+    ("one too many", "request", post(CHUNKED, body=b"1\r\nb\r\n" * 1484 + b"0\r\n\r\n"), "body-long"),
     ("a body of 65,536 bytes that isn't there", "request", post(b"content-length: 65536"), "cut"),
     ("a body of 65,536 bytes", "request", post(b"content-length: 65536", body=b"b" * BODY), "got"),
     ("a body of 65,537 bytes, by its head alone", "request", post(b"content-length: 65537"), "body-long"),
@@ -128,7 +144,9 @@ ROWS = [
     ("section 6.3: 304 has no body", "response", reply(b"content-length: 999999", status=b"304 Not Modified"), "got"),
     ("304 with two ways to end", "response", reply(CHUNKED, b"content-length: 3", status=b"304 Not Modified"), "length"),
     ("a response's coding isn't asked", "response", reply(b"content-encoding: gzip", b"expect: x", b"content-length: 0"), "got"),
-    ("a response like any other", "response", reply(b"content-length: 0", status=b"103 Early Hints"), "got"),
+    ("section 6.3: a status 1xx has no body", "response", reply(b"content-length: 3", status=b"103 Early Hints", body=b"abc"), "got"),
+    ("a status 1xx without a length, and what follows", "response", reply(status=b"100 Continue", body=b"HTTP"), "got"),
+    ("another status that is no status", "response", reply(b"content-length: 1", status=b"099 x", body=b"a"), "got"),
     ("two digits", "response", b"HTTP/1.1 20 OK\r\n\r\n", "head"),
     ("no response", "response", b"", "cut"),
     ("a body of 524,288 bytes that isn't there", "response", reply(b"content-length: 524288"), "cut"),
@@ -161,6 +179,8 @@ DECIDING = [
     ("two bytes after a chunk", "request", "length", post(CHUNKED, body=b"1\r\nabc")),
     ("the second of two bytes after a chunk", "request", "length", post(CHUNKED, body=b"1\r\na\r\r")),
     ("a trailer section without its end", "request", "length", post(CHUNKED, body=b"0\r\n" + b"x" * 1024)),
+    ("a byte beside the content too many", "request", "body-long", post(CHUNKED, body=FULL + SPREAD + b"1;" + b"x" * (FRAME % 250 - 1))),
+    ("a last byte too many", "request", "body-long", post(CHUNKED, body=padded(FRAME + 1))),
     ("a chunk over the limit", "request", "body-long", post(CHUNKED, body=b"1\r\na\r\n10000\r\n")),
     ("the lines of a response's head", "response", "head-long", b"HTTP/1.1 200 OK\r\n" + b"f: 1\r\n" * 65),
     ("a status", "response", "head", b"HTTP/1.1 2000 OK\r\n\r\n"),

@@ -1,6 +1,7 @@
 pub mod AppendLemmas
 pub mod BodyLemmas
 pub mod ChunkLemmas
+pub mod FrameLemmas
 pub mod HeadLemmas
 pub mod LawLemmas
 pub mod OutcomeLemmas

@@ -6,7 +6,7 @@ ghost use Rattle.sig_http.specs.Bodies.{EndsBody, IsWithin, StopsBody};
 ghost use Rattle.sig_http.specs.declared.framing.Framing.TheVariants as framings;
 
 use crate::HttpFault;
-use crate::chunks::{Chunks, FIRST, read_chunks};
+use crate::chunks::{Chunks, first, read_chunks};
 use crate::framing::Framing;
 use crate::piece::{Room, take_piece};
 use sig_outside::Source;
@@ -86,10 +86,10 @@ fn read_chunked<S: Source>(
 {
     let mut held = held;
     let mut content = Vec::new(alloc);
-    let mut phase = FIRST;
+    let mut standing = first(limit);
     'pieces: loop {
-        match read_chunks(held.as_slice(), phase, limit, &mut content)? {
-            Chunks::Open(next) => phase = next,
+        match read_chunks(held.as_slice(), standing, limit, &mut content)? {
+            Chunks::Open(next) => standing = next,
             Chunks::Ended(place) => {
                 let rest = held.split_off(place)?;
                 return Ok(Body { content, rest });

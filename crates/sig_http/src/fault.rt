@@ -17,7 +17,8 @@ pub enum HttpFault {
     /// How the body ends isn't said, or is said twice (RFC 9112, section 6.3), or a chunk is malformed (section 7.1).
     #[error("the body's end isn't said")]
     Length,
-    /// The body has more than `REQUEST_BODY_BYTES` or `RESPONSE_BODY_BYTES` bytes.
+    /// The body has more than `REQUEST_BODY_BYTES` or `RESPONSE_BODY_BYTES` bytes, or in chunks more bytes beside them than a
+    /// body of that length has in chunks of `CHUNK_BYTES`.
     #[error("the body is too long")]
     BodyLong,
     /// The body of a request has a coding other than `identity` (RFC 9110, section 8.4).

@@ -1,6 +1,6 @@
 //! Laws over the definitions: each function's contract is the law, and nothing calls it.
 
-ghost use Rattle.sig_http.specs.Laws.{HasOneRequest, HasOneResponse, ReadsBackRequest, ReadsBackResponse};
+ghost use Rattle.sig_http.specs.Laws.{HasFewBeside, HasOneRequest, HasOneResponse, IsSoonDecided, ReadsBackRequest, ReadsBackResponse};
 
 /// Two outcomes that the same bytes decide of a request are one, message and bytes after it. With the contract of
 /// `read_request` the answer depends on the bytes of a source alone, and not on the pieces in which it gives them.
@@ -29,4 +29,17 @@ pub fn a_written_request_is_read_back()
 /// are within the limits. The fields aren't kept by a reader.
 pub fn a_written_response_is_read_back()
     ensures { ReadsBackResponse }
+{}
+
+/// A chunked body that is whole has at most as many bytes beside its content, in its chunk lines, line ends and trailer
+/// section, as a body of the greatest length in chunks of `CHUNK_BYTES` bytes, with the longest last line and trailer
+/// section.
+pub fn a_chunked_body_has_few_bytes_beside_its_content()
+    ensures { HasFewBeside }
+{}
+
+/// Bytes that don't decide a chunked body yet are at most those and as many as its content may have. `read_request` and
+/// `read_response` take a further piece of a source only after such bytes.
+pub fn a_chunked_body_is_soon_decided()
+    ensures { IsSoonDecided }
 {}
