@@ -22,7 +22,7 @@ def request(head, body=b""):
 
 
 def post(*fields, body=b""):
-    return request([b"POST / HTTP/1.1", *fields], body)
+    return request([b"POST / HTTP/1.1", b"host: a", *fields], body)
 
 
 def reply(*fields, body=b"", status=b"200 OK"):
@@ -30,14 +30,26 @@ def reply(*fields, body=b"", status=b"200 OK"):
 
 
 CHUNKED = b"transfer-encoding: chunked"
+# As many bytes beside the content as a body of a request may have, in chunks of one byte and extensions that fill them.
+FRAME = BODY // 64 * 6 + 256 + 1024
+SPREAD = b"1;" + b"x" * 244 + b"\r\nb\r\n"
+FULL = SPREAD * (FRAME // 250 - 1)
+
+
+def padded(count):
+    """Chunks with their last one and an empty trailer section, and so many bytes beside their content."""
+    rest = count - 250 * (FRAME // 250 - 1) - 5 - 5
+    return FULL + b"1;" + b"x" * (rest // 2 - 1) + b"\r\nb\r\n" + b"0;" + b"x" * (rest - rest // 2 - 1) + b"\r\n\r\n"
+
+
 FILLED = b"f: " + b"v" * (HEAD - len(post(b"f: ")))
 
 # Each row: what it shows, the kind, the bytes, and the answer's first word.
 ROWS = [
     ("RFC 9112, section 2.1", "request", b"GET /hello.txt HTTP/1.1\r\nUser-Agent: curl/7.64.1\r\nHost: www.example.com\r\nAccept-Language: en, mi\r\n\r\n", "got"),
     ("RFC 9112, section 3.2.1: a target with a query", "request", b"GET /where?q=now HTTP/1.1\r\nHost: www.example.org\r\n\r\n", "got"),
-    ("RFC 8935, section 2.1, with an unchanged body", "request", post(b"Host: notify.rp.example.com", b"Accept: application/json", b"Accept-Language: en-US, en;q=0.5", b"Content-Type: application/secevent+jwt", b"Content-Length: 20", body=b"eyJ0eXAiOiJzZWNldmVu"), "got"),
-    ("section 2.2: empty lines before a request", "request", b"\r\n\r\nGET / HTTP/1.1\r\n\r\n", "got"),
+    ("RFC 8935, section 2.1, with an unchanged body", "request", request([b"POST / HTTP/1.1", b"Host: notify.rp.example.com", b"Accept: application/json", b"Accept-Language: en-US, en;q=0.5", b"Content-Type: application/secevent+jwt", b"Content-Length: 20"], b"eyJ0eXAiOiJzZWNldmVu"), "got"),
+    ("section 2.2: empty lines before a request", "request", b"\r\n\r\nGET / HTTP/1.1\r\nhost: a\r\n\r\n", "got"),
     ("section 2.2: lines that end in LF", "request", b"GET / HTTP/1.1\nhost: a\n\n", "got"),
     ("section 2.2: a bare CR", "request", b"GET / HTTP/1.1\r\nx: a\rb\r\n\r\n", "head"),
     ("section 2.2: a line between the start line and the fields that begins with a space", "request", b"GET / HTTP/1.1\r\n x: y\r\n\r\n", "head"),
@@ -80,10 +92,28 @@ ROWS = [
     ("a chunk line of 257 bytes", "request", post(CHUNKED, body=b"0;" + b"x" * 253 + b"\r\n\r\n"), "length"),
     ("a trailer section of 1,024 bytes", "request", post(CHUNKED, body=b"0\r\n" + b"x" * 1020 + b"\r\n\r\n"), "got"),
     ("a trailer section of 1,025 bytes", "request", post(CHUNKED, body=b"0\r\n" + b"x" * 1021 + b"\r\n\r\n"), "length"),
+    ("RFC 9112, section 3.2: no host in HTTP/1.1", "request", b"GET / HTTP/1.1\r\n\r\n", "host"),
+    ("a host twice in HTTP/1.1", "request", post(b"Host: a"), "host"),
+    ("a host twice in HTTP/1.0", "request", b"GET / HTTP/1.0\r\nhost: a\r\nhost: a\r\n\r\n", "host"),
+    ("one in HTTP/1.0", "request", b"GET / HTTP/1.0\r\nhost: a\r\n\r\n", "got"),
+    ("an empty host", "request", b"GET / HTTP/1.1\r\nhost:\r\n\r\n", "got"),
+    ("a fragment", "request", b"GET /a#b HTTP/1.1\r\nhost: a\r\n\r\n", "head"),
+    ("a fragment in a query", "request", b"GET /a?b#c HTTP/1.1\r\nhost: a\r\n\r\n", "head"),
+    ("section 3.2.2: the absolute form", "request", b"GET http://www.example.org/pub/WWW/TheProject.html HTTP/1.1\r\nhost: a\r\n\r\n", "got"),
+    ("the absolute form with a query", "request", b"GET HTTPS://a:1/b//c?http://d/e HTTP/1.1\r\nhost: a\r\n\r\n", "got"),
+    ("the absolute form without a path", "request", b"GET hTTp://a?b/c HTTP/1.0\r\n\r\n", "got"),
+    ("the absolute form of no authority", "request", b"GET http:// HTTP/1.0\r\n\r\n", "got"),
+    ("another scheme", "request", b"GET ftp://a/b HTTP/1.0\r\n\r\n", "got"),
+    ("a scheme without an authority", "request", b"GET http:/a/b HTTP/1.0\r\n\r\n", "got"),
+    ("a URL in a path", "request", b"GET /http://a/b HTTP/1.0\r\n\r\n", "got"),
+    ("the form of OPTIONS", "request", b"OPTIONS * HTTP/1.1\r\nhost: a\r\n\r\n", "got"),
     ("RFC 9110, section 10.1.1: an expectation", "request", post(b"expect: 100-continue"), "expect"),
+    ("an expectation in HTTP/1.0", "request", b"POST / HTTP/1.0\r\nexpect: 100-continue\r\ncontent-length: 1\r\n\r\na", "got"),
     ("RFC 9110, section 8.4: a coding", "request", post(b"content-encoding: gzip"), "coding"),
     ("the coding that changes nothing", "request", post(b"content-encoding: Identity"), "got"),
     ("of several faults the first: a head", "request", post(b"expect: x", b" folded"), "head"),
+    ("a fragment", "request", b"GET /# HTTP/1.1\r\nexpect: x\r\n\r\n", "head"),
+    ("a host", "request", b"GET / HTTP/1.1\r\nexpect: x\r\ncontent-encoding: br\r\n\r\n", "host"),
     ("an expectation", "request", post(b"content-length: x", b"content-encoding: br", b"expect: x"), "expect"),
     ("a coding", "request", post(b"content-length: x", b"content-encoding: br"), "coding"),
     ("a length", "request", post(b"content-length: 99999", b"content-length: x"), "length"),
@@ -92,10 +122,14 @@ ROWS = [
     ("RFC 6750, section 2.1: a bearer", "request", post(b"authorization: BEARER  a b"), "got"),
     ("another scheme before a bearer", "request", post(b"authorization: Basic x", b"authorization: Bearer y"), "got"),
     ("a bearer that is no UTF-8", "request", post(b"authorization: Bearer \xff"), "got"),
-    ("64 fields", "request", post(*[b"f: 1"] * 64), "got"),
-    ("65 fields", "request", post(*[b"f: 1"] * 65), "head-long"),
+    ("64 fields", "request", post(*[b"f: 1"] * 63), "got"),
+    ("65 fields", "request", post(*[b"f: 1"] * 64), "head-long"),
     ("a head of 16,384 bytes", "request", post(FILLED), "got"),
     ("a head of 16,385 bytes", "request", post(FILLED + b"v"), "head-long"),
+    ("as many bytes beside the content as may be", "request", post(CHUNKED, body=padded(FRAME)), "got"),
+    ("one more", "request", post(CHUNKED, body=padded(FRAME + 1)), "body-long"),
+    ("chunks of one byte", "request", post(CHUNKED, body=b"1\r\nb\r\n" * 1483 + b"0\r\n\r\n"), "got"),
+    ("one too many", "request", post(CHUNKED, body=b"1\r\nb\r\n" * 1484 + b"0\r\n\r\n"), "body-long"),
     ("a body of 65,536 bytes that isn't there", "request", post(b"content-length: 65536"), "cut"),
     ("a body of 65,536 bytes", "request", post(b"content-length: 65536", body=b"b" * BODY), "got"),
     ("a body of 65,537 bytes, by its head alone", "request", post(b"content-length: 65537"), "body-long"),
@@ -110,7 +144,9 @@ ROWS = [
     ("section 6.3: 304 has no body", "response", reply(b"content-length: 999999", status=b"304 Not Modified"), "got"),
     ("304 with two ways to end", "response", reply(CHUNKED, b"content-length: 3", status=b"304 Not Modified"), "length"),
     ("a response's coding isn't asked", "response", reply(b"content-encoding: gzip", b"expect: x", b"content-length: 0"), "got"),
-    ("a response like any other", "response", reply(b"content-length: 0", status=b"103 Early Hints"), "got"),
+    ("section 6.3: a status 1xx has no body", "response", reply(b"content-length: 3", status=b"103 Early Hints", body=b"abc"), "got"),
+    ("a status 1xx without a length, and what follows", "response", reply(status=b"100 Continue", body=b"HTTP"), "got"),
+    ("another status that is no status", "response", reply(b"content-length: 1", status=b"099 x", body=b"a"), "got"),
     ("two digits", "response", b"HTTP/1.1 20 OK\r\n\r\n", "head"),
     ("no response", "response", b"", "cut"),
     ("a body of 524,288 bytes that isn't there", "response", reply(b"content-length: 524288"), "cut"),
@@ -130,6 +166,9 @@ DECIDING = [
     ("its lines after empty ones", "request", "head-long", b"\r\n\nGET / HTTP/1.1\n" + b"f:\n" * 65),
     ("a version", "request", "head", b"GET / HTTP/2.0\r\n\r\n"),
     ("a field", "request", "head", post(b"x : y")),
+    ("a fragment", "request", "head", b"GET /# HTTP/1.1\r\nhost: a\r\n\r\n"),
+    ("a host that isn't there", "request", "host", b"GET / HTTP/1.1\r\n\r\n"),
+    ("a second host", "request", "host", post(b"Host: b")),
     ("an expectation", "request", "expect", post(b"expect: x")),
     ("a coding of the content", "request", "coding", post(b"content-encoding: br")),
     ("a length", "request", "length", post(b"content-length: -1")),
@@ -140,6 +179,8 @@ DECIDING = [
     ("two bytes after a chunk", "request", "length", post(CHUNKED, body=b"1\r\nabc")),
     ("the second of two bytes after a chunk", "request", "length", post(CHUNKED, body=b"1\r\na\r\r")),
     ("a trailer section without its end", "request", "length", post(CHUNKED, body=b"0\r\n" + b"x" * 1024)),
+    ("a byte beside the content too many", "request", "body-long", post(CHUNKED, body=FULL + SPREAD + b"1;" + b"x" * (FRAME % 250 - 1))),
+    ("a last byte too many", "request", "body-long", post(CHUNKED, body=padded(FRAME + 1))),
     ("a chunk over the limit", "request", "body-long", post(CHUNKED, body=b"1\r\na\r\n10000\r\n")),
     ("the lines of a response's head", "response", "head-long", b"HTTP/1.1 200 OK\r\n" + b"f: 1\r\n" * 65),
     ("a status", "response", "head", b"HTTP/1.1 2000 OK\r\n\r\n"),
@@ -151,7 +192,7 @@ DECIDING = [
 
 # Each row: what it shows, the kind, the bytes, and the answer's first word where there are none.
 ENDING = [
-    ("a request with a body", "request", post(b"host: a", b"content-length: 3", body=b"abc"), "end"),
+    ("a request with a body", "request", post(b"content-length: 3", body=b"abc"), "end"),
     ("a request in chunks", "request", post(CHUNKED, body=b"4;x\r\nWiki\r\n0\r\ny: z\r\n\r\n"), "end"),
     ("a response with a body", "response", reply(b"content-length: 3", body=b"abc"), "cut"),
 ]

@@ -106,6 +106,8 @@ def links():
                b"".join(request("POST", "/sessions/check", body) for body in (b"", b"[]", b"{}", b'{"format":"opaque"}', b'{"format":"opaque","id":"s-77","x":1}')),
                "end", bad("body") * 2, bad("subject") * 3)
     yield link("A head that is none is answered once, and the link closes.", b"nonsense\r\n\r\n" + check("s-77"), "head", unread("head"))
+    yield link("A request says its host once (RFC 9112, section 3.2).", check("s-77").replace(b"host: rp.example\r\n", b""), "host", unread("host"))
+    yield link("The absolute form of a target is its path (RFC 9112, section 3.2.2).", check("s-77").replace(b" /sessions", b" http://rp.example/sessions"), "end", seen)
     yield link("A body that is cut is answered nothing.", check("s-77")[:-1], "cut")
     yield link("A body above the limit is refused unread (RFC 9110, section 15.5.14).", check("s-77").replace(b"content-length: 31", b"content-length: 65537"), "body-long", response(413, close=True))
     yield link("A second token about the same subject, and one about a part of another (RFC 8417, section 2.1; SSF, section 3.2).",

@@ -33,9 +33,9 @@ REQUESTS = [
     b"POST /poll/acme-1?x=%20 HTTP/1.1\r\nhost: a\r\ntransfer-encoding: chunked\r\nconnection: keep-alive, Close\r\n\r\n"
     b"4;x=\"y\"\r\nWiki\r\n7  \r\npedia i\r\nB\r\nn \r\nchunks.\r\n\r\n0\r\nExpires: never\r\n\r\nGET / HTTP/1.1\r\n\r\n",
     b"\r\n\r\nPUT /ssf/stream HTTP/1.0\nhost:x\ncontent-length:3\nexpect: 100-continue\n\n{ }",
-    b"POST / HTTP/1.1\r\ncontent-length: 3\r\ncontent-encoding: identity\r\n\r\nabcPOST / HTTP/1.1\r\n\r\n",
-    b"POST / HTTP/1.1\r\ncontent-length: 003\r\ncontent-length: 3\r\n\r\nabc",
-    b"GET /\xc3\xa9?a=\xe2\x82\xac HTTP/1.1\r\nauthorization: bearer \xff\r\n\r\n",
+    b"POST / HTTP/1.1\r\nhost: a\r\ncontent-length: 3\r\ncontent-encoding: identity\r\n\r\nabcPOST / HTTP/1.1\r\n\r\n",
+    b"POST / HTTP/1.1\r\nhost: a\r\ncontent-length: 003\r\ncontent-length: 3\r\n\r\nabc",
+    b"GET /\xc3\xa9?a=\xe2\x82\xac HTTP/1.1\r\nhost: a\r\nauthorization: bearer \xff\r\n\r\n",
 ]
 RESPONSES = [
     b"HTTP/1.1 200 OK\r\nDate: Mon, 27 Jul 2009 12:28:53 GMT\r\nServer: Apache\r\nContent-Length: 14\r\nConnection: close\r\n\r\n"

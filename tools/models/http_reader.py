@@ -24,6 +24,7 @@ HEADS = {
     "request": re.compile(rb"(?:\r?\n)*" + REQUEST_LINE + rb"((?:" + FIELD + rb")*)" + END),
     "response": re.compile(rb"(?:\r?\n)*" + STATUS_LINE + rb"((?:" + FIELD + rb")*)" + END),
 }
+ABSOLUTE = re.compile(r"https?://[^/]*(/.*)?", re.ASCII | re.DOTALL | re.IGNORECASE)
 CHUNK_LINE = re.compile(rb"([0-9A-Fa-f]{1,16})[ \t]*(?:;[^\r\n]*)?\r\n")
 
 
@@ -76,7 +77,7 @@ def framing_of(kind, status, fields):
         raise Fault("length")
     if codings and (lengths or len(codings) > 1 or codings[0].lower() != b"chunked"):
         raise Fault("length")
-    if kind == "response" and status in (204, 304):
+    if kind == "response" and (status in (204, 304) or 100 <= status < 200):
         return 0
     if codings:
         return "chunked"
@@ -93,42 +94,62 @@ def int_of(digits):
     return digits.decode().lstrip("0")
 
 
+def spend(spare, count):
+    """What is left of the bytes that may stand beside the content, once so many of them came."""
+    if count > spare:
+        raise Fault("body-long")
+    return spare - count
+
+
+def line_of(data, spare):
+    """The bytes and the size of the chunk line at the start, and what is left of the bytes beside the content."""
+    part = data[:CHUNK_LINE_BYTES]
+    count = part.find(b"\n") + 1
+    line = CHUNK_LINE.fullmatch(part[:count])
+    if line is None and (count or len(part) == CHUNK_LINE_BYTES):
+        spend(spare, (count or CHUNK_LINE_BYTES) - 1)
+        raise Fault("length")
+    spare = spend(spare, count or len(part))
+    if line is None:
+        raise Cut
+    return count, int(line[1], 16), spare
+
+
 def chunked_body(data, limit):
     """The content of a chunked body, and its length in bytes."""
-    content, place = b"", 0
+    content, place, spare = b"", 0, limit // 64 * 6 + CHUNK_LINE_BYTES + TRAILER_BYTES
     while True:
-        newline = data.find(b"\n", place, place + CHUNK_LINE_BYTES)
-        if newline < 0:
-            if len(data) - place >= CHUNK_LINE_BYTES:
-                raise Fault("length")
-            raise Cut
-        line = CHUNK_LINE.fullmatch(data[place : newline + 1])
-        if line is None:
-            raise Fault("length")
-        place, size = newline + 1, int(line[1], 16)
+        count, size, spare = line_of(data[place:], spare)
+        place += count
         if size == 0:
-            return content, place + trailer_of(data[place:])
+            return content, place + trailer_of(data[place:], spare)
         if len(content) + size > limit:
             raise Fault("body-long")
         content += data[place : place + size]
         place += size
-        if len(data) < place + 2:
-            raise Cut
-        if data[place : place + 2] != b"\r\n":
+        end = data[place : place + 2]
+        if len(end) == 2 and end != b"\r\n":
+            spend(spare, 1)
             raise Fault("length")
+        spare = spend(spare, len(end))
+        if len(end) < 2:
+            raise Cut
         place += 2
 
 
-def trailer_of(data):
+def trailer_of(data, spare):
     """The length of a trailer section."""
     part, place = data[:TRAILER_BYTES], 0
     while True:
         newline = part.find(b"\n", place)
         if newline < 0:
             if len(data) >= TRAILER_BYTES:
+                spend(spare, TRAILER_BYTES - 1)
                 raise Fault("length")
+            spend(spare, len(data))
             raise Cut
         if part[place:newline] in (b"", b"\r"):
+            spend(spare, newline + 1)
             return newline + 1
         place = newline + 1
 
@@ -161,6 +182,12 @@ def bearer_of(fields):
     return None
 
 
+def path_of(target):
+    """The path of a target without its query: that of the absolute form follows its authority."""
+    found = ABSOLUTE.fullmatch(target)
+    return target if found is None else found[1] or "/"
+
+
 def closes(minor, fields):
     words = [word.strip(b" \t").lower() for value in values(fields, b"connection") for word in value.split(b",")]
     return minor == b"0" or b"close" in words
@@ -174,14 +201,18 @@ def read(kind, data):
         raise Fault("head")
     if kind == "request":
         method, target, minor, text = head.groups()
-        if text_of(target) is None:
+        if text_of(target) is None or b"#" in target:
             raise Fault("head")
         fields, status = fields_of(text), None
-        if values(fields, b"expect"):
+        hosts = len(values(fields, b"host"))
+        if hosts > 1 or hosts == 0 and minor == b"1":
+            raise Fault("host")
+        if values(fields, b"expect") and minor == b"1":
             raise Fault("expect")
         if any(coding.lower() != b"identity" for coding in values(fields, b"content-encoding")):
             raise Fault("coding")
         path, _, query = text_of(target).partition("?")
+        path = path_of(path)
         message = {"bearer": bearer_of(fields), "method": method.decode(), "path": path, "query": query}
     else:
         minor, digits, text = head.groups()

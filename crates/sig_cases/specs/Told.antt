@@ -104,6 +104,7 @@ want_refused want.Memory = []
 -- of bytes that are no message (RFC 9112)
 abbrev pub message_refused : HttpFault → List ℕ
 message_refused http.Head = codes "head"
+message_refused http.Host = codes "host"
 message_refused http.HeadLong = codes "head-long"
 message_refused http.Length = codes "length"
 message_refused http.BodyLong = codes "body-long"

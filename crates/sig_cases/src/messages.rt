@@ -90,6 +90,7 @@ fn refused(alloc: Global, fault: HttpFault) -> Result<Bytes, Memory>
 {
     match fault {
         HttpFault::Head => bare(alloc, "head"),
+        HttpFault::Host => bare(alloc, "host"),
         HttpFault::HeadLong => bare(alloc, "head-long"),
         HttpFault::Length => bare(alloc, "length"),
         HttpFault::BodyLong => bare(alloc, "body-long"),

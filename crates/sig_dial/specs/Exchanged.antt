@@ -20,6 +20,7 @@ unsent_by sends.Memory = Memory
 -- why no response was read
 abbrev pub unread_by : HttpFault → AskFault
 unread_by reads.Head = NoResponse
+unread_by reads.Host = NoResponse
 unread_by reads.HeadLong = NoResponse
 unread_by reads.Length = NoResponse
 unread_by reads.BodyLong = NoResponse

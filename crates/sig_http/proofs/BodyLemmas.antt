@@ -5,15 +5,14 @@ use Rattle.std.proofs.lemmas.Bool.{le-leb, lt-leb}
 use Rattle.std.proofs.KnownBytes.{Consumes-trans}
 use Rattle.sig_http.proofs.ChunkLemmas.{chunks_stand}
 use Rattle.sig_http.specs.Pieces.{Draws}
-use Rattle.sig_http.specs.Chunks.{Stands, Holds, Fails, chunks_from, empty_line}
+use Rattle.sig_http.specs.Chunks.{Stands, Holds, Fails, chunks_from, first}
 use Rattle.sig_http.specs.Message.{Whole, Broken, Unfinished, body_of, outcome_of}
 use Rattle.sig_http.specs.Bodies.{EndsBody, BreaksBody, CutsBody}
 use Rattle.sig_http.specs.declared.body.Body.{Body}
 use Rattle.sig_http.specs.declared.fault.HttpFault.{HttpFault}
 use Rattle.sig_http.specs.declared.fault.HttpFault.TheVariants as faults
 use Rattle.sig_http.specs.declared.framing.Framing.TheVariants as framings
-use Rattle.sig_http.specs.declared.chunks.Phase.{Phase}
-use Rattle.sig_http.specs.declared.chunks.Phase.TheVariants as phases
+use Rattle.sig_http.specs.declared.chunks.Standing.{Standing}
 
 -- no byte is none
 length-zero : (bytes : List ℕ) → length bytes ≡ 0 → bytes ≡ []
@@ -68,39 +67,39 @@ end_breaks limit held all l m p many = record {
 -- ---- by chunks
 
 -- what was taken so far says what the held bytes say from where the body stands
-pub record Chunking (limit : ℕ) (held : List ℕ) (phase : Phase) (content now : List ℕ) (l m : Option (List ℕ)) : Type 0 where
+pub record Chunking (limit : ℕ) (held : List ℕ) (standing : Standing) (content now : List ℕ) (l m : Option (List ℕ)) : Type 0 where
   pub more : List ℕ
   pub gave : Consumes l m more
-  pub told : chunks_from limit (phases.Line empty_line) [] (held ++ more) ≡ chunks_from limit phase content now
+  pub told : chunks_from limit (first limit) [] (held ++ more) ≡ chunks_from limit standing content now
 
 -- a further piece
-pub chunking_on : (limit : ℕ) (held : List ℕ) (phase next : Phase) (content so_far now piece : List ℕ) (l m n : Option (List ℕ)) → Chunking limit held phase content now l m
-    → chunks_from limit phase content now ≡ Stands next so_far → Draws [] piece m n → Chunking limit held next so_far piece l n
-chunking_on limit held phase next content so_far now piece l m n p stands draws = record {
+pub chunking_on : (limit : ℕ) (held : List ℕ) (standing next : Standing) (content so_far now piece : List ℕ) (l m n : Option (List ℕ)) → Chunking limit held standing content now l m
+    → chunks_from limit standing content now ≡ Stands next so_far → Draws [] piece m n → Chunking limit held next so_far piece l n
+chunking_on limit held standing next content so_far now piece l m n p stands draws = record {
   more = p.more ++ draws.more;
   gave = Consumes-trans l m n p.more draws.more p.gave draws.gave;
-  told = ap (chunks_from limit (phases.Line empty_line) []) (sym (append_assoc held p.more draws.more))
-      ∙ chunks_stand limit (phases.Line empty_line) next [] so_far (held ++ p.more) draws.more (p.told ∙ stands)
+  told = ap (chunks_from limit (first limit) []) (sym (append_assoc held p.more draws.more))
+      ∙ chunks_stand limit (first limit) next [] so_far (held ++ p.more) draws.more (p.told ∙ stands)
       ∙ ap (chunks_from limit next so_far) (sym draws.stands);
 }
 
-pub chunks_end : (limit place : ℕ) (held : List ℕ) (phase : Phase) (content now : List ℕ) (body : Body) (l m : Option (List ℕ)) → Chunking limit held phase content now l m
-    → chunks_from limit phase content now ≡ Holds body.content.items (drop place now) → body.rest.items ≡ drop place now → EndsBody limit framings.Chunks held body l m
-chunks_end limit place held phase content now body l m p holds rest = record {
+pub chunks_end : (limit place : ℕ) (held : List ℕ) (standing : Standing) (content now : List ℕ) (body : Body) (l m : Option (List ℕ)) → Chunking limit held standing content now l m
+    → chunks_from limit standing content now ≡ Holds body.content.items (drop place now) → body.rest.items ≡ drop place now → EndsBody limit framings.Chunks held body l m
+chunks_end limit place held standing content now body l m p holds rest = record {
   more = p.more;
   gave = p.gave;
   is = ap outcome_of (p.told ∙ holds) ∙ ap (Whole body.content.items) (sym rest);
   ends = tt;
 }
 
-pub chunks_break : (limit : ℕ) (held : List ℕ) (phase : Phase) (content now : List ℕ) (fault : HttpFault) (l m : Option (List ℕ)) → Chunking limit held phase content now l m
-    → chunks_from limit phase content now ≡ Fails fault → BreaksBody limit framings.Chunks held fault l m
-chunks_break limit held phase content now fault l m p fails = record { more = p.more; gave = p.gave; is = ap outcome_of (p.told ∙ fails) }
+pub chunks_break : (limit : ℕ) (held : List ℕ) (standing : Standing) (content now : List ℕ) (fault : HttpFault) (l m : Option (List ℕ)) → Chunking limit held standing content now l m
+    → chunks_from limit standing content now ≡ Fails fault → BreaksBody limit framings.Chunks held fault l m
+chunks_break limit held standing content now fault l m p fails = record { more = p.more; gave = p.gave; is = ap outcome_of (p.told ∙ fails) }
 
-pub chunks_cut : (limit : ℕ) (held : List ℕ) (phase next : Phase) (content so_far now piece : List ℕ) (l m n : Option (List ℕ)) → Chunking limit held phase content now l m
-    → chunks_from limit phase content now ≡ Stands next so_far → Draws [] piece m n → length piece ≡ 0 → IsAtEnd n → CutsBody limit framings.Chunks held l n
-chunks_cut limit held phase next content so_far now piece l m n p stands draws none ends =
-    let q = chunking_on limit held phase next content so_far now piece l m n p stands draws in
+pub chunks_cut : (limit : ℕ) (held : List ℕ) (standing next : Standing) (content so_far now piece : List ℕ) (l m n : Option (List ℕ)) → Chunking limit held standing content now l m
+    → chunks_from limit standing content now ≡ Stands next so_far → Draws [] piece m n → length piece ≡ 0 → IsAtEnd n → CutsBody limit framings.Chunks held l n
+chunks_cut limit held standing next content so_far now piece l m n p stands draws none ends =
+    let q = chunking_on limit held standing next content so_far now piece l m n p stands draws in
     record {
       more = q.more;
       gave = q.gave;

@@ -1,6 +1,7 @@
 pub mod AppendLemmas
 pub mod BodyLemmas
 pub mod ChunkLemmas
+pub mod FrameLemmas
 pub mod HeadLemmas
 pub mod LawLemmas
 pub mod OutcomeLemmas
@@ -8,6 +9,7 @@ pub mod PieceLemmas
 pub mod ReadingLemmas
 pub mod ResponseLemmas
 pub mod SectionLemmas
+pub mod TargetLemmas
 pub mod TextLemmas
 pub mod TokenLemmas
 pub mod NumberLemmas

@@ -3,7 +3,7 @@ use Rattle.std.proofs.Common.{◌≡◌, ◌≤◌, ◌<◌, ℕ, Bool, true, fa
 use Rattle.std.specs.Prelude.{nat_le}
 use Rattle.std.proofs.lemmas.Bool.{le-leb, lt-leb, leb-true, leb-false}
 use Rattle.std.proofs.lemmas.List.{take-append-le, drop-append-le}
-use Rattle.sig_http.specs.Chunks.{Chunked, Stands, Holds, Fails, chunks_from, empty_line}
+use Rattle.sig_http.specs.Chunks.{Chunked, Stands, Holds, Fails, chunks_from, first}
 use Rattle.sig_http.specs.Message.{Outcome, Whole, Broken, Unfinished, body_of, outcome_of, after_head, as_body}
 use Rattle.sig_http.specs.Bodies.{EndsBody, BreaksBody, CutsBody, EndsWithSource}
 use Rattle.sig_http.specs.declared.body.Body.{Body}
@@ -11,7 +11,6 @@ use Rattle.sig_http.specs.declared.fault.HttpFault.{HttpFault}
 use Rattle.sig_http.specs.declared.fault.HttpFault.TheVariants as faults
 use Rattle.sig_http.specs.declared.framing.Framing.{Framing}
 use Rattle.sig_http.specs.declared.framing.Framing.TheVariants as framings
-use Rattle.sig_http.specs.declared.chunks.Phase.TheVariants as phases
 use Rattle.sig_http.proofs.ChunkLemmas.{chunks_then, chunks_append}
 
 -- the same, with more bytes after those that decide it
@@ -35,7 +34,7 @@ length_whole n bytes more content rest true t e =
 length_whole n bytes more content rest false t e = cc e
 
 chunks_whole : (limit : ℕ) (told : Chunked) (more content rest : List ℕ) → outcome_of told ≡ Whole content rest → outcome_of (chunks_then limit told more) ≡ Whole content (rest ++ more)
-chunks_whole limit (Stands phase so_far) more content rest e = cc e
+chunks_whole limit (Stands standing so_far) more content rest e = cc e
 chunks_whole limit (Holds so_far after) more content rest e = ap (λ o. outcome_then o more) e
 chunks_whole limit (Fails fault) more content rest e = cc e
 
@@ -43,8 +42,8 @@ pub body_whole : (limit : ℕ) (framing : Framing) (bytes more content rest : Li
     → body_of limit framing (bytes ++ more) ≡ Whole content (rest ++ more)
 body_whole limit (framings.Length n) bytes more content rest e ends = length_whole n bytes more content rest (nat_le n (length bytes)) refl e
 body_whole limit framings.Chunks bytes more content rest e ends =
-    ap outcome_of (chunks_append limit (phases.Line empty_line) [] bytes more)
-    ∙ chunks_whole limit (chunks_from limit (phases.Line empty_line) [] bytes) more content rest e
+    ap outcome_of (chunks_append limit (first limit) [] bytes more)
+    ∙ chunks_whole limit (chunks_from limit (first limit) [] bytes) more content rest e
 body_whole limit framings.End bytes more content rest e ends =
     ap (λ x. body_of limit framings.End (bytes ++ x)) ends ∙ ap (body_of limit framings.End) (append-nil bytes) ∙ e
     ∙ ap (Whole content) (sym (append-nil rest)) ∙ ap (λ x. Whole content (rest ++ x)) (sym ends)
@@ -56,7 +55,7 @@ length_broken n bytes fault X true e = cc e
 length_broken n bytes fault X false e = cc e
 
 chunks_broken : (limit : ℕ) (told : Chunked) (more : List ℕ) (fault : HttpFault) → outcome_of told ≡ Broken fault → outcome_of (chunks_then limit told more) ≡ Broken fault
-chunks_broken limit (Stands phase so_far) more fault e = cc e
+chunks_broken limit (Stands standing so_far) more fault e = cc e
 chunks_broken limit (Holds so_far after) more fault e = cc e
 chunks_broken limit (Fails other) more fault e = e
 
@@ -73,8 +72,8 @@ pub body_broken : (limit : ℕ) (framing : Framing) (bytes more : List ℕ) (fau
     → body_of limit framing (bytes ++ more) ≡ Broken fault
 body_broken limit (framings.Length n) bytes more fault e = length_broken n bytes fault _ (nat_le n (length bytes)) e
 body_broken limit framings.Chunks bytes more fault e =
-    ap outcome_of (chunks_append limit (phases.Line empty_line) [] bytes more)
-    ∙ chunks_broken limit (chunks_from limit (phases.Line empty_line) [] bytes) more fault e
+    ap outcome_of (chunks_append limit (first limit) [] bytes more)
+    ∙ chunks_broken limit (chunks_from limit (first limit) [] bytes) more fault e
 body_broken limit framings.End bytes more fault e = end_broken limit bytes more fault (nat_le (length bytes) limit) refl e
 
 -- ---- a message after its head

@@ -18,6 +18,7 @@ use Rattle.sig_http.specs.Section.{start, section_from}
 use Rattle.sig_http.specs.Spelling.{field_line, authorization, line_if, length_and_body, place_text, query_part, request_line, request_spelling}
 use Rattle.sig_http.specs.Values.{is_number, is_same_number, number_of, skip_zeros}
 use Rattle.sig_http.specs.Fields.{closes, first_value}
+use Rattle.sig_http.specs.Targets.{after_scheme, has_fragment, path_after, path_in}
 use Rattle.sig_http.specs.Framing.{request_fault, request_framing}
 use Rattle.sig_http.specs.Message.{Outcome, Whole, Unfinished, DecidesBy, DecidesRequest, FindsRequest, requests, request_fields, request_of, after_section, after_head, as_body, body_of, bearer_of, is_question_mark}
 use Rattle.sig_http.specs.Written.{IsReadableRequest, request_read, target_of}
@@ -162,21 +163,22 @@ head_section (x ∷ m) target pairs rest token uri ok few lines =
 abbrev pub fields_of : List (List ℕ × List ℕ) → List (List ℕ × List ℕ)
 fields_of pairs = map name_and_value (map field_of pairs)
 
-checks_pass : (a b : Bool) → a ≡ true → b ≡ true
-    → first_failing (check faults.Expect true ∷ check faults.Coding true ∷ check faults.Length ((not (not a) && true) && true) ∷ check faults.BodyLong b ∷ []) ≡ None
-checks_pass true true e f = refl
-checks_pass true false e f = cc f
-checks_pass false b e f = cc e
+checks_pass : (h a b : Bool) → h ≡ false → a ≡ true → b ≡ true
+    → first_failing (check faults.Head (not h) ∷ check faults.Host true ∷ check faults.Expect true ∷ check faults.Coding true ∷ check faults.Length ((not (not a) && true) && true) ∷ check faults.BodyLong b ∷ []) ≡ None
+checks_pass true a b h e f = cc h
+checks_pass false true true h e f = refl
+checks_pass false true false h e f = cc f
+checks_pass false false b h e f = cc e
 
 abbrev pub says_length : List ℕ → Bool
 says_length value = is_number value && is_same_number value value
 
-no_fault : (host : List ℕ) (bearer : Option (List ℕ)) (kind : List ℕ) (language : Bool) (count : List ℕ) → says_length (trim_ows (32 ∷ count)) ≡ true
-    → nat_le (number_of (trim_ows (32 ∷ count))) REQUEST_BODY_BYTES ≡ true → request_fault (fields_of (pairs_of host bearer kind language count)) ≡ None
-no_fault host None kind true count e f = checks_pass (says_length (trim_ows (32 ∷ count))) (nat_le (number_of (trim_ows (32 ∷ count))) REQUEST_BODY_BYTES) e f
-no_fault host None kind false count e f = checks_pass (says_length (trim_ows (32 ∷ count))) (nat_le (number_of (trim_ows (32 ∷ count))) REQUEST_BODY_BYTES) e f
-no_fault host (Some bearer) kind true count e f = checks_pass (says_length (trim_ows (32 ∷ count))) (nat_le (number_of (trim_ows (32 ∷ count))) REQUEST_BODY_BYTES) e f
-no_fault host (Some bearer) kind false count e f = checks_pass (says_length (trim_ows (32 ∷ count))) (nat_le (number_of (trim_ows (32 ∷ count))) REQUEST_BODY_BYTES) e f
+no_fault : (target host : List ℕ) (bearer : Option (List ℕ)) (kind : List ℕ) (language : Bool) (count : List ℕ) → has_fragment target ≡ false → says_length (trim_ows (32 ∷ count)) ≡ true
+    → nat_le (number_of (trim_ows (32 ∷ count))) REQUEST_BODY_BYTES ≡ true → request_fault 1 target (fields_of (pairs_of host bearer kind language count)) ≡ None
+no_fault target host None kind true count h e f = checks_pass (has_fragment target) (says_length (trim_ows (32 ∷ count))) (nat_le (number_of (trim_ows (32 ∷ count))) REQUEST_BODY_BYTES) h e f
+no_fault target host None kind false count h e f = checks_pass (has_fragment target) (says_length (trim_ows (32 ∷ count))) (nat_le (number_of (trim_ows (32 ∷ count))) REQUEST_BODY_BYTES) h e f
+no_fault target host (Some bearer) kind true count h e f = checks_pass (has_fragment target) (says_length (trim_ows (32 ∷ count))) (nat_le (number_of (trim_ows (32 ∷ count))) REQUEST_BODY_BYTES) h e f
+no_fault target host (Some bearer) kind false count h e f = checks_pass (has_fragment target) (says_length (trim_ows (32 ∷ count))) (nat_le (number_of (trim_ows (32 ∷ count))) REQUEST_BODY_BYTES) h e f
 
 framed_by : (host : List ℕ) (bearer : Option (List ℕ)) (kind : List ℕ) (language : Bool) (count : List ℕ)
     → request_framing (fields_of (pairs_of host bearer kind language count)) ≡ framings.Length (number_of (trim_ows (32 ∷ count)))
@@ -255,13 +257,14 @@ body_taken limit n body rest e =
     ∙ ap (Whole body) (drop-append_seam body rest)
 
 -- the request that is read of such a head
-message_is : (request : Request) (host kind : List ℕ) (language : Bool) (count : List ℕ) → list_any is_question_mark request.path ≡ false
+message_is : (request : Request) (host kind : List ℕ) (language : Bool) (count : List ℕ) → list_any is_question_mark request.path ≡ false → after_scheme request.path ≡ None
     → request_of (head_with request.method (target_of request) (pairs_of host request.bearer kind language count)) request.body ≡ request_read request
-message_is request host kind language count plain =
+message_is request host kind language count plain origin =
     let parts = path_query request.path request.query plain in
     let target = target_of request in
     let fields = fields_of (pairs_of host request.bearer kind language count) in
-    ap (λ p. record { method = request.method; path = p; query = after_first is_question_mark target; bearer = bearer_of (first_value (codes "authorization") fields); close = closes fields; body = request.body }) parts.0
+    ap (λ p. record { method = request.method; path = path_in p; query = after_first is_question_mark target; bearer = bearer_of (first_value (codes "authorization") fields); close = closes fields; body = request.body }) parts.0
+    ∙ ap (λ o. record { method = request.method; path = path_after request.path o; query = after_first is_question_mark target; bearer = bearer_of (first_value (codes "authorization") fields); close = closes fields; body = request.body }) origin
     ∙ ap (λ q. record { method = request.method; path = request.path; query = q; bearer = bearer_of (first_value (codes "authorization") fields); close = closes fields; body = request.body }) parts.1
     ∙ ap (λ b. record { method = request.method; path = request.path; query = request.query; bearer = bearer_of b; close = closes fields; body = request.body }) (bearing host request.bearer kind language count)
     ∙ ap (λ c. record { method = request.method; path = request.path; query = request.query; bearer = bearer_of (option_map trim_ows request.bearer); close = c; body = request.body }) (closing host request.bearer kind language count)
@@ -325,9 +328,9 @@ spelled place request kind language rest =
     ∙ ap (λ l. request.method ++ 32 ∷ (target_of request ++ (codes " HTTP/1.1\r\n" ++ (l ++ 13 ∷ 10 ∷ (request.body ++ rest))))) (lines_are pairs)
 
 after_it : (host : List ℕ) (request : Request) (kind : List ℕ) (language : Bool) (rest : List ℕ) → length request.body ≤ REQUEST_BODY_BYTES → list_any is_question_mark request.path ≡ false
-    → Whole (request_read request) rest
+    → after_scheme request.path ≡ None → has_fragment (target_of request) ≡ false → Whole (request_read request) rest
     ≡ after_section requests (Some (head_with request.method (target_of request) (pairs_of host request.bearer kind language (decimal (length request.body))))) (request.body ++ rest)
-after_it host request kind language rest few plain =
+after_it host request kind language rest few plain origin whole =
     let n = length request.body in
     let limit : REQUEST_BODY_BYTES ≡ 65536 = refl in
     let greatest : RESPONSE_BODY_BYTES ≡ 524288 = refl in
@@ -340,10 +343,10 @@ after_it host request kind language rest few plain =
     ap says_length trimmed ∙ ap (λ t. t && is_same_number count count) (decimal_number n small) ∙ same_number count in
     let within : nat_le (number_of (trim_ows (32 ∷ count))) REQUEST_BODY_BYTES ≡ true = ap (λ k. nat_le k REQUEST_BODY_BYTES) number ∙ le-leb n REQUEST_BODY_BYTES few in
     sym (
-    ap (λ f. after_head f REQUEST_BODY_BYTES (request_framing (request_fields head)) (request_of head) (request.body ++ rest)) (no_fault host request.bearer kind language count says within)
+    ap (λ f. after_head f REQUEST_BODY_BYTES (request_framing (request_fields head)) (request_of head) (request.body ++ rest)) (no_fault (target_of request) host request.bearer kind language count whole says within)
     ∙ ap (λ f. as_body (request_of head) (body_of REQUEST_BODY_BYTES f (request.body ++ rest))) (framed_by host request.bearer kind language count)
     ∙ ap (as_body (request_of head)) (body_taken REQUEST_BODY_BYTES (number_of (trim_ows (32 ∷ count))) request.body rest number)
-    ∙ ap (λ m. Whole m rest) (message_is request host kind language count plain)
+    ∙ ap (λ m. Whole m rest) (message_is request host kind language count plain origin)
     )
 
 -- a request that is written is read back
@@ -369,4 +372,4 @@ request_read_back place request kind language rest ok =
     subst (λ bytes. DecidesRequest bytes (Whole (request_read request) rest)) (sym (spelled place request kind language rest))
     (decided request.method target pairs (request.body ++ rest) (Whole (request_read request) rest) head_ok
     (head_section request.method target pairs (request.body ++ rest) ok.method ok.target.1 valid within lines)
-    (omega (arith, length-map pairs field_of, lines)) (after_it host request kind language rest ok.body ok.path))
+    (omega (arith, length-map pairs field_of, lines)) (after_it host request kind language rest ok.body ok.path ok.origin ok.plain))

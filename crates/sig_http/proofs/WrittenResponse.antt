@@ -23,9 +23,9 @@ use Rattle.sig_http.specs.Section.{start, section_from}
 use Rattle.sig_http.specs.Spelling.{field_line, field_lines, line_if, phrase, status_line, rest_of, response_spelling}
 use Rattle.sig_http.specs.Values.{is_number, is_same_number, number_of, says_close}
 use Rattle.sig_http.specs.Fields.{is_named, first_value, lengths_are, closes}
-use Rattle.sig_http.specs.Framing.{count_named, length_field, length_in, is_chunked_alone, is_framed, framing_fault, response_fault, response_framing}
+use Rattle.sig_http.specs.Framing.{count_named, length_field, length_in, is_chunked_alone, is_framed, framing_fault, is_bodiless, is_informational, response_fault, response_framing}
 use Rattle.sig_http.specs.Message.{Outcome, Whole, DecidesBy, DecidesResponse, FindsResponse, responses, response_of, after_section, after_head, as_body, body_of}
-use Rattle.sig_http.specs.Written.{IsReadableHeader, IsReadableResponse, response_read, is_reserved, is_bodiless}
+use Rattle.sig_http.specs.Written.{IsReadableHeader, IsReadableResponse, response_read, is_reserved}
 use Rattle.sig_http.specs.declared.message.Header.{Header}
 use Rattle.sig_http.specs.declared.message.Response.{Response}
 use Rattle.sig_http.specs.declared.section.Section.TheVariants.{Ended}
@@ -310,7 +310,7 @@ framed_by_status status fields bodiless =
     else (if nat_lt 0 (count_named (codes "content-length") fields) then framings.Length (length_in fields) else framings.End))) bodiless
 
 lengthless_bodiless : (status : ℕ) → (status == 204) ≡ true → is_bodiless status ≡ true
-lengthless_bodiless status e = ap (λ t. t || (status == 304)) e
+lengthless_bodiless status e = ap (λ t. (t || (status == 304)) || is_informational status) e
 
 -- however it is said, it ends after as many bytes as its body has
 ends_after : (status : ℕ) (hs : List Header) (close lengthless : Bool) (body : List ℕ) → ArePlain hs → (status == 204) ≡ lengthless → (is_bodiless status ≡ true → body ≡ [])

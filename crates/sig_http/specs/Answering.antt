@@ -3,7 +3,7 @@ use Rattle.std.specs.Prelude.{ℕ, true, false, List, [], ◌∷◌, ◌++◌, O
 use Rattle.serde_json.specs.Data.{string}
 use Rattle.serde_json.specs.Written.{compact_text}
 use Rattle.sig_http.specs.declared.fault.HttpFault.{HttpFault}
-use Rattle.sig_http.specs.declared.fault.HttpFault.TheVariants.{Head, HeadLong, Length, BodyLong, Coding, Expect, Cut, Link, Memory}
+use Rattle.sig_http.specs.declared.fault.HttpFault.TheVariants.{Head, Host, HeadLong, Length, BodyLong, Coding, Expect, Cut, Link, Memory}
 use Rattle.sig_http.specs.declared.fault.HttpRefusal.{HttpRefusal}
 use Rattle.sig_http.specs.declared.fault.HttpRefusal.TheVariants as refusals
 use Rattle.sig_http.specs.declared.message.Response.{Response}
@@ -25,6 +25,7 @@ bad_request body = record {
 -- says nothing of a token, so it has no code of RFC 8935, section 2.4
 abbrev pub closing_of : HttpFault → Option Response
 closing_of Head = Some (bad_request (codes "{\"description\":\"head\"}"))
+closing_of Host = Some (bad_request (codes "{\"description\":\"host\"}"))
 closing_of HeadLong = Some (closing 431)
 closing_of Length = Some (bad_request (codes "{\"description\":\"length\"}"))
 closing_of BodyLong = Some (closing 413)

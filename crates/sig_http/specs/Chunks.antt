@@ -1,9 +1,9 @@
 -- A chunked body (RFC 9112, section 7.1): chunks, each a line with its size and its bytes, a chunk of size 0, and a trailer section. What is told in the order of its bytes.
-use Rattle.std.specs.Prelude.{◌≡◌, ℕ, ◌+◌, ◌-◌, ◌*◌, ◌<◌, ◌≤◌, ◌==◌, nat_lt, nat_le, Bool, true, false, ◌&&◌, List, [], ◌∷◌, ◌++◌, drop, length, if◌then◌else◌, Option, Some, None}
+use Rattle.std.specs.Prelude.{◌≡◌, ℕ, ◌+◌, ◌-◌, ◌*◌, ◌/◌, ◌<◌, ◌≤◌, ◌==◌, nat_lt, nat_le, Bool, true, false, ◌&&◌, List, [], ◌∷◌, ◌++◌, drop, length, if◌then◌else◌, Option, Some, None}
 use Rattle.sig_http.specs.Faults.{OnJudged}
 use Rattle.sig_http.specs.Section.{line_feed, carriage_return, begun_with}
 use Rattle.sig_http.specs.Values.{hex_digit, number_with, is_blank}
-use Rattle.sig_http.specs.declared.limits.TheConstants.{CHUNK_LINE_BYTES, CHUNK_DIGITS, TRAILER_BYTES}
+use Rattle.sig_http.specs.declared.limits.TheConstants.{CHUNK_BYTES, CHUNK_FRAME_BYTES, CHUNK_LINE_BYTES, CHUNK_DIGITS, TRAILER_BYTES}
 use Rattle.sig_http.specs.declared.section.Begun.{Begun}
 use Rattle.sig_http.specs.declared.section.Begun.TheVariants as begins
 use Rattle.sig_http.specs.declared.fault.HttpFault.{HttpFault}
@@ -13,6 +13,9 @@ use Rattle.sig_http.specs.declared.chunks.Part.TheVariants as parts
 use Rattle.sig_http.specs.declared.chunks.SizeLine.{SizeLine}
 use Rattle.sig_http.specs.declared.chunks.Phase.{Phase}
 use Rattle.sig_http.specs.declared.chunks.Phase.TheVariants.{Line, Data, Return, Newline, Trailer}
+use Rattle.sig_http.specs.declared.chunks.Standing.{Standing}
+use Rattle.sig_http.specs.declared.chunks.Step.{Step}
+use Rattle.sig_http.specs.declared.chunks.Step.TheVariants as steps
 use Rattle.sig_http.specs.declared.chunks.Chunk.{Chunk}
 use Rattle.sig_http.specs.declared.chunks.Chunk.TheVariants.{On, Keeps, Ended, Broken}
 use Rattle.sig_http.specs.declared.chunks.Chunks.{Chunks}
@@ -97,27 +100,47 @@ chunk_byte limit held Return b = On (Newline (b == carriage_return))
 chunk_byte limit held (Newline whole) b = if whole && (b == line_feed) then On (Line empty_line) else Broken Length
 chunk_byte limit held (Trailer bytes begun) b = trailer_byte bytes begun b
 
+-- ---- the bytes beside the content: chunk lines, line ends and the trailer section
+
+-- as many as a body of this length has in chunks of so many bytes, and with the longest last line and trailer section
+abbrev pub frame_bytes : ℕ → ℕ
+frame_bytes limit = (limit / CHUNK_BYTES) * CHUNK_FRAME_BYTES + CHUNK_LINE_BYTES + TRAILER_BYTES
+
+-- a byte of the content is none of them, and one that decides a fault decides it; where none may come any more, another one is too many
+abbrev pub framed_by : Standing → Chunk → Step
+framed_by s (Keeps next) = steps.Keeps (record { spare = s.spare; phase = next })
+framed_by s (Broken fault) = steps.Broken fault
+framed_by s (On next) = if s.spare == 0 then steps.Broken BodyLong else steps.On (record { spare = s.spare - 1; phase = next })
+framed_by s Ended = if s.spare == 0 then steps.Broken BodyLong else steps.Ended
+
+abbrev pub framed_byte : ℕ → ℕ → Standing → ℕ → Step
+framed_byte limit held s b = framed_by s (chunk_byte limit held s.phase b)
+
 -- ---- the body
+
+-- nothing of a body
+abbrev pub first : ℕ → Standing
+first limit = record { spare = frame_bytes limit; phase = Line empty_line }
 
 -- what bytes say of a chunked body: where it stands with its content so far, its content and the bytes after it, or a fault
 pub data Chunked : Type 0 where
-  Stands : Phase → List ℕ → Chunked
+  Stands : Standing → List ℕ → Chunked
   Holds : List ℕ → List ℕ → Chunked
   Fails : HttpFault → Chunked
 
 -- the first byte that ends it or breaks it decides
-abbrev pub chunks_from : ℕ → Phase → List ℕ → List ℕ → Chunked
-chunks_from limit phase content [] = Stands phase content
-chunks_from limit phase content (b ∷ bytes) = elim (chunk_byte limit (length content) phase b) [
-  | On next ↦ chunks_from limit next content bytes
-  | Keeps next ↦ chunks_from limit next (content ++ b ∷ []) bytes
-  | Ended ↦ Holds content bytes
-  | Broken fault ↦ Fails fault
+abbrev pub chunks_from : ℕ → Standing → List ℕ → List ℕ → Chunked
+chunks_from limit s content [] = Stands s content
+chunks_from limit s content (b ∷ bytes) = elim (framed_byte limit (length content) s b) [
+  | steps.On next ↦ chunks_from limit next content bytes
+  | steps.Keeps next ↦ chunks_from limit next (content ++ b ∷ []) bytes
+  | steps.Ended ↦ Holds content bytes
+  | steps.Broken fault ↦ Fails fault
 ]
 
 -- what the code answers, with the content that it gathered
 abbrev pub Tells : Chunks → List ℕ → List ℕ → Chunked → Type 0
-Tells (told.Open phase) content bytes is = is ≡ Stands phase content
+Tells (told.Open s) content bytes is = is ≡ Stands s content
 Tells (told.Ended place) content bytes is = (place ≤ length bytes) × (is ≡ Holds content (drop place bytes))
 Tells (told.Broken fault) content bytes is = is ≡ Fails fault
 
@@ -141,8 +164,15 @@ IsLighter limit held phase (Keeps next) = weight limit next (held + 1) < weight 
 IsLighter limit held phase Ended = Unit {0}
 IsLighter limit held phase (Broken fault) = OnJudged fault (Unit {0})
 
+-- the same of a byte where so many may still come
+abbrev pub IsStepLighter : ℕ → ℕ → Standing → Step → Type 0
+IsStepLighter limit held s (steps.On next) = weight limit next.phase held < weight limit s.phase held
+IsStepLighter limit held s (steps.Keeps next) = weight limit next.phase (held + 1) < weight limit s.phase held
+IsStepLighter limit held s steps.Ended = Unit {0}
+IsStepLighter limit held s (steps.Broken fault) = OnJudged fault (Unit {0})
+
 -- bytes lessen it, or decide a fault
-abbrev pub StaysLight : ℕ → Phase → List ℕ → List ℕ → List ℕ → Chunks → Type 0
-StaysLight limit phase old new bytes (told.Open next) = weight limit next (length new) + length bytes ≤ weight limit phase (length old)
-StaysLight limit phase old new bytes (told.Ended place) = Unit {0}
-StaysLight limit phase old new bytes (told.Broken fault) = OnJudged fault (Unit {0})
+abbrev pub StaysLight : ℕ → Standing → List ℕ → List ℕ → List ℕ → Chunks → Type 0
+StaysLight limit s old new bytes (told.Open next) = weight limit next.phase (length new) + length bytes ≤ weight limit s.phase (length old)
+StaysLight limit s old new bytes (told.Ended place) = Unit {0}
+StaysLight limit s old new bytes (told.Broken fault) = OnJudged fault (Unit {0})

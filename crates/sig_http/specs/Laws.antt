@@ -1,9 +1,11 @@
 -- Laws over what bytes decide.
-use Rattle.std.specs.Prelude.{◌≡◌, ℕ, Bool, List, ◌++◌}
+use Rattle.std.specs.Prelude.{◌≡◌, ℕ, ◌≤◌, ◌+◌, Bool, List, ◌++◌, length}
 use Rattle.sig_outside.specs.declared.place.Place.{Place}
-use Rattle.sig_http.specs.Message.{Outcome, Whole, DecidesRequest, DecidesResponse}
+use Rattle.sig_http.specs.Chunks.{frame_bytes}
+use Rattle.sig_http.specs.Message.{Outcome, Whole, Unfinished, body_of, DecidesRequest, DecidesResponse}
 use Rattle.sig_http.specs.Spelling.{request_spelling, response_spelling}
 use Rattle.sig_http.specs.Written.{IsReadableRequest, request_read, IsReadableResponse, response_read}
+use Rattle.sig_http.specs.declared.framing.Framing.TheVariants.{Chunks}
 use Rattle.sig_http.specs.declared.message.Request.{Request}
 use Rattle.sig_http.specs.declared.message.Response.{Response}
 
@@ -23,3 +25,11 @@ ReadsBackRequest = (place : Place) (request : Request) (kind : List ℕ) (langua
 -- and of a response
 abbrev pub ReadsBackResponse : Type 0
 ReadsBackResponse = (response : Response) (rest : List ℕ) → IsReadableResponse response → DecidesResponse (response_spelling response ++ rest) (Whole (response_read response) rest)
+
+-- a chunked body that is whole has few bytes beside its content
+abbrev pub HasFewBeside : Type 0
+HasFewBeside = (limit : ℕ) (bytes content rest : List ℕ) → body_of limit Chunks bytes ≡ Whole content rest → length bytes ≤ length rest + length content + frame_bytes limit
+
+-- and bytes that don't decide one are few
+abbrev pub IsSoonDecided : Type 0
+IsSoonDecided = (limit : ℕ) (bytes : List ℕ) → body_of limit Chunks bytes ≡ Unfinished → length bytes ≤ limit + frame_bytes limit

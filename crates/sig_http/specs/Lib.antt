@@ -11,5 +11,6 @@ pub mod Pieces
 pub mod Query
 pub mod Section
 pub mod Spelling
+pub mod Targets
 pub mod Values
 pub mod Written

@@ -6,14 +6,14 @@ use Rattle.sig_json.specs.declared.limits.TheConstants.{HEADER_FIELDS, REQUEST_B
 use Rattle.httparse.specs.Grammar.{RequestHead, ResponseHead, ReadsRequest, ReadsResponse, status_code}
 use Rattle.httparse.specs.Spans.{name_and_value}
 use Rattle.sig_http.specs.Section.{start, section_from}
+use Rattle.sig_http.specs.Targets.{path_in}
 use Rattle.sig_http.specs.Values.{after_bearer}
 use Rattle.sig_http.specs.Faults.{OnFault}
 use Rattle.sig_http.specs.Fields.{first_value, closes}
 use Rattle.sig_http.specs.Framing.{request_fault, request_framing, response_fault, response_framing}
-use Rattle.sig_http.specs.Chunks.{Chunked, Stands, Holds, Fails, chunks_from, empty_line}
+use Rattle.sig_http.specs.Chunks.{Chunked, Stands, Holds, Fails, chunks_from, first}
 use Rattle.sig_http.specs.declared.section.Section.{Section}
 use Rattle.sig_http.specs.declared.section.Section.TheVariants.{Open, Ended, Long}
-use Rattle.sig_http.specs.declared.chunks.Phase.TheVariants as phases
 use Rattle.sig_http.specs.declared.framing.Framing.{Framing}
 use Rattle.sig_http.specs.declared.framing.Framing.TheVariants as framings
 use Rattle.sig_http.specs.declared.fault.HttpFault.{HttpFault}
@@ -64,7 +64,7 @@ is_closing minor fields = (minor == 0) || closes fields
 abbrev pub request_from : List ℕ → List ℕ → ℕ → List (List ℕ × List ℕ) → List ℕ → Request
 request_from method target minor fields content = record {
   method = method;
-  path = before_first is_question_mark target;
+  path = path_in (before_first is_question_mark target);
   query = after_first is_question_mark target;
   bearer = bearer_of (first_value (codes "authorization") fields);
   close = is_closing minor fields;
@@ -100,14 +100,14 @@ as_body message Unfinished = Unfinished
 
 -- a chunked body
 abbrev pub outcome_of : Chunked → Outcome (List ℕ)
-outcome_of (Stands phase content) = Unfinished
+outcome_of (Stands standing content) = Unfinished
 outcome_of (Holds content rest) = Whole content rest
 outcome_of (Fails fault) = Broken fault
 
 -- the body at the start of these bytes, which the source ends (RFC 9112, section 6.3)
 abbrev pub body_of : ℕ → Framing → List ℕ → Outcome (List ℕ)
 body_of limit (framings.Length n) bytes = if nat_le n (length bytes) then Whole (take n bytes) (drop n bytes) else Unfinished
-body_of limit framings.Chunks bytes = outcome_of (chunks_from limit (phases.Line empty_line) [] bytes)
+body_of limit framings.Chunks bytes = outcome_of (chunks_from limit (first limit) [] bytes)
 body_of limit framings.End bytes = if nat_le (length bytes) limit then Whole bytes [] else Broken faults.BodyLong
 
 -- after a head section: a fault of the head, or the body
@@ -136,7 +136,7 @@ DecidesBy {H = H} Finds kind bytes outcome (Ended n) = (found : Option H) × Fin
 abbrev pub requests : Kind Request RequestHead
 requests = record {
   limit = REQUEST_BODY_BYTES;
-  fault = λ head. request_fault (request_fields head);
+  fault = λ head. request_fault head.minor head.target (request_fields head);
   framing = λ head. request_framing (request_fields head);
   message = request_of;
 }

@@ -4,7 +4,7 @@ use Rattle.std.specs.Io.KnownBytes.{Consumes, IsAtEnd}
 use Rattle.sig_outside.specs.Causes.{Raised}
 use Rattle.sig_http.specs.declared.limits.TheConstants.{PIECE_BYTES}
 use Rattle.sig_http.specs.declared.fault.HttpFault.{HttpFault}
-use Rattle.sig_http.specs.declared.fault.HttpFault.TheVariants.{Head, HeadLong, Length, BodyLong, Coding, Expect, Cut, Link, Memory}
+use Rattle.sig_http.specs.declared.fault.HttpFault.TheVariants.{Head, Host, HeadLong, Length, BodyLong, Coding, Expect, Cut, Link, Memory}
 
 -- bytes were taken of the source, in its order, and stand behind those that stood
 pub record Draws (old new : List ℕ) (left left' : Option (List ℕ)) : Type 0 where
@@ -23,6 +23,7 @@ abbrev pub Halts : HttpFault → ℕ → ℕ → Type 0
 Halts Link before now = Raised before now
 Halts Memory before now = now ≡ before
 Halts Head before now = ⊥
+Halts Host before now = ⊥
 Halts HeadLong before now = ⊥
 Halts Length before now = ⊥
 Halts BodyLong before now = ⊥

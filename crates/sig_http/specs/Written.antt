@@ -1,12 +1,14 @@
 -- Which messages are read back from the spelling in which they are written, and what is read then (RFC 9112).
-use Rattle.std.specs.Prelude.{◌≡◌, ℕ, ◌+◌, ◌<◌, ◌≤◌, ◌^◌, ◌==◌, Bool, true, false, ◌||◌, List, [], ◌∷◌, ◌++◌, All, length, if◌then◌else◌, IfSome, IsUtf8, option_map, codes}
+use Rattle.std.specs.Prelude.{◌≡◌, ℕ, ◌+◌, ◌<◌, ◌≤◌, ◌^◌, ◌==◌, Bool, true, false, List, [], ◌∷◌, ◌++◌, All, length, if◌then◌else◌, None, IfSome, IsUtf8, option_map, codes}
 use Rattle.std.specs.List.{list_any}
 use Rattle.std.specs.Str.{str_eq_ignore_ascii_case}
 use Rattle.sig_json.specs.declared.limits.TheConstants.{HEAD_BYTES, HEADER_FIELDS, REQUEST_BODY_BYTES, RESPONSE_BODY_BYTES}
 use Rattle.httparse.specs.Grammar.{AllPass, IsToken, is_uri_byte, is_value_byte, trim_ows}
 use Rattle.http.specs.StatusCode.{IsStatusCode}
 use Rattle.sig_outside.specs.declared.place.Place.{Place}
+use Rattle.sig_http.specs.Framing.{is_bodiless}
 use Rattle.sig_http.specs.Message.{bearer_of, is_question_mark}
+use Rattle.sig_http.specs.Targets.{after_scheme, has_fragment}
 use Rattle.sig_http.specs.Spelling.{query_part, request_spelling, response_spelling}
 use Rattle.sig_http.specs.declared.message.Header.{Header}
 use Rattle.sig_http.specs.declared.message.Request.{Request}
@@ -24,6 +26,8 @@ pub record IsReadableRequest (place : Place) (request : Request) (content_type :
   pub target : (0 < length (target_of request)) × AllPass is_uri_byte (target_of request)
   pub text : IsUtf8 (target_of request)
   pub path : list_any is_question_mark request.path ≡ false
+  pub origin : after_scheme request.path ≡ None
+  pub plain : has_fragment (target_of request) ≡ false
   pub host : AllPass is_value_byte place.host
   pub port : place.port < 2 ^ 16
   pub bearer : IfSome request.bearer (AllPass is_value_byte)
@@ -53,10 +57,6 @@ pub record IsReadableHeader (header : Header) : Type 0 where
   pub name : IsToken header.name
   pub value : AllPass is_value_byte header.value
   pub plain : is_reserved header.name ≡ false
-
--- a response of this status has no body (RFC 9110, section 6.4.1)
-abbrev pub is_bodiless : ℕ → Bool
-is_bodiless status = (status == 204) || (status == 304)
 
 -- how many fields the writer adds: the closing of the link, and the length, which a response of status 204 doesn't say
 abbrev pub added_fields : Response → ℕ

@@ -10,7 +10,7 @@ use std::alloc::Global;
 /// The response with which a server answers a request that can't be read, after which it closes the link. There is none
 /// exactly for `Cut`, `Link` and `Memory`.
 ///
-/// A 400 names the place that is wrong, `head` or `length`, as `description`. It has no `err`: what can't be read says
+/// A 400 names the place that is wrong, `head`, `host` or `length`, as `description`. It has no `err`: what can't be read says
 /// nothing of a token, and a transmitter must not take it for the end of one (RFC 8935, section 2.4). The others have no
 /// body.
 pub fn fault_of(alloc: Global, fault: &HttpFault) -> Result<Option<Response>, Memory>
@@ -20,6 +20,10 @@ pub fn fault_of(alloc: Global, fault: &HttpFault) -> Result<Option<Response>, Me
         HttpFault::Head => Some(bad_request(
             alloc,
             b"{\"description\":\"head\"}",
+        )?),
+        HttpFault::Host => Some(bad_request(
+            alloc,
+            b"{\"description\":\"host\"}",
         )?),
         HttpFault::Length => Some(bad_request(
             alloc,

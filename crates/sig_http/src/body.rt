@@ -6,9 +6,9 @@ ghost use Rattle.sig_http.specs.Bodies.{EndsBody, IsWithin, StopsBody};
 ghost use Rattle.sig_http.specs.declared.framing.Framing.TheVariants as framings;
 
 use crate::HttpFault;
-use crate::chunks::{Chunks, FIRST, read_chunks};
+use crate::chunks::{Chunks, first, read_chunks};
 use crate::framing::Framing;
-use crate::piece::take_piece;
+use crate::piece::{Room, take_piece};
 use sig_outside::Source;
 use std::alloc::Global;
 
@@ -23,6 +23,7 @@ pub struct Body {
 pub fn read_body<S: Source>(
     alloc: Global,
     source: &mut S,
+    room: &mut Room,
     limit: usize,
     framing: Framing,
     held: Vec<u8>,
@@ -37,14 +38,19 @@ pub fn read_body<S: Source>(
     ensures beside { S.beside source.new ≡ S.beside source.old }
 {
     match framing {
-        Framing::Length(count) => read_length(source, count, held),
-        Framing::Chunks => read_chunked(alloc, source, limit, held),
-        Framing::End => read_to_end(alloc, source, limit, held),
+        Framing::Length(count) => read_length(source, room, count, held),
+        Framing::Chunks => read_chunked(alloc, source, room, limit, held),
+        Framing::End => read_to_end(alloc, source, room, limit, held),
     }
 }
 
 // Reads a body of so many bytes.
-fn read_length<S: Source>(source: &mut S, count: usize, held: Vec<u8>) -> Result<Body, HttpFault>
+fn read_length<S: Source>(
+    source: &mut S,
+    room: &mut Room,
+    count: usize,
+    held: Vec<u8>,
+) -> Result<Body, HttpFault>
     requires { count ≤ RESPONSE_BODY_BYTES }
     ensures body { IfOk result (λ body. (limit : ℕ) → EndsBody limit (framings.Length count) held.items body (S.left source.old) (S.left source.new)) }
     ensures bound { IfOk result (λ body. length body.rest.items ≤ max (length held.items) PIECE_BYTES) }
@@ -55,7 +61,7 @@ fn read_length<S: Source>(source: &mut S, count: usize, held: Vec<u8>) -> Result
 {
     let mut content = held;
     'pieces: while content.len() < count {
-        if take_piece(&mut content, source)? == 0 {
+        if take_piece(&mut content, source, room)? == 0 {
             return Err(HttpFault::Cut);
         }
     }
@@ -67,6 +73,7 @@ fn read_length<S: Source>(source: &mut S, count: usize, held: Vec<u8>) -> Result
 fn read_chunked<S: Source>(
     alloc: Global,
     source: &mut S,
+    room: &mut Room,
     limit: usize,
     held: Vec<u8>,
 ) -> Result<Body, HttpFault>
@@ -79,10 +86,10 @@ fn read_chunked<S: Source>(
 {
     let mut held = held;
     let mut content = Vec::new(alloc);
-    let mut phase = FIRST;
+    let mut standing = first(limit);
     'pieces: loop {
-        match read_chunks(held.as_slice(), phase, limit, &mut content)? {
-            Chunks::Open(next) => phase = next,
+        match read_chunks(held.as_slice(), standing, limit, &mut content)? {
+            Chunks::Open(next) => standing = next,
             Chunks::Ended(place) => {
                 let rest = held.split_off(place)?;
                 return Ok(Body { content, rest });
@@ -90,7 +97,7 @@ fn read_chunked<S: Source>(
             Chunks::Broken(fault) => return Err(fault),
         }
         held.clear();
-        if take_piece(&mut held, source)? == 0 {
+        if take_piece(&mut held, source, room)? == 0 {
             return Err(HttpFault::Cut);
         }
     }
@@ -100,6 +107,7 @@ fn read_chunked<S: Source>(
 fn read_to_end<S: Source>(
     alloc: Global,
     source: &mut S,
+    room: &mut Room,
     limit: usize,
     held: Vec<u8>,
 ) -> Result<Body, HttpFault>
@@ -113,7 +121,7 @@ fn read_to_end<S: Source>(
 {
     let mut content = held;
     'pieces: while content.len() <= limit {
-        if take_piece(&mut content, source)? == 0 {
+        if take_piece(&mut content, source, room)? == 0 {
             let rest = Vec::new(alloc);
             return Ok(Body { content, rest });
         }

@@ -1,9 +1,11 @@
 ghost use Rattle.std.specs.Prelude.{◌≡◌, ◌<◌, ◌+◌, length, IfOk};
-ghost use Rattle.sig_http.specs.Chunks.{IsLighter, StaysLight, Tells, after_line, after_size, chunk_byte, chunks_from, line_with, size_with, trailer_byte, weight};
+ghost use Rattle.sig_http.specs.Chunks.{IsLighter, IsStepLighter, StaysLight, Tells, after_line, after_size, chunk_byte, chunks_from, first, frame_bytes, framed_by, framed_byte, line_with, size_with, trailer_byte, weight};
 ghost use Rattle.sig_http.specs.Values.{hex_digit, number_with};
 
 use crate::HttpFault;
-use crate::limits::{CHUNK_DIGITS, CHUNK_LINE_BYTES, TRAILER_BYTES};
+use crate::limits::{
+    CHUNK_BYTES, CHUNK_DIGITS, CHUNK_FRAME_BYTES, CHUNK_LINE_BYTES, TRAILER_BYTES,
+};
 use crate::section::{Begun, begun_with};
 use crate::values::{hex_digit, number_with};
 use sig_json::Memory;
@@ -43,7 +45,14 @@ pub enum Phase {
     Trailer(usize, Begun),
 }
 
-/// What one byte of a chunked body says.
+/// Where a chunked body stands, and how many bytes beside its content may still come.
+#[derive(Clone, Copy, PartialEq, Eq)]
+pub struct Standing {
+    pub spare: usize,
+    pub phase: Phase,
+}
+
+/// What one byte of a chunked body says, however many came before.
 #[derive(Clone, Copy, PartialEq, Eq)]
 pub enum Chunk {
     /// It is one of those between the chunks' bytes.
@@ -56,11 +65,24 @@ pub enum Chunk {
     Broken(HttpFault),
 }
 
+/// What one byte of a chunked body says, of which so many bytes may still come.
+#[derive(Clone, Copy, PartialEq, Eq)]
+pub enum Step {
+    /// It is one of those between the chunks' bytes.
+    On(Standing),
+    /// It is a byte of the content.
+    Keeps(Standing),
+    /// It is the last byte of the body.
+    Ended,
+    /// It decides this fault.
+    Broken(HttpFault),
+}
+
 /// What bytes say of a chunked body.
 #[derive(Clone, Copy, PartialEq, Eq)]
 pub enum Chunks {
     /// It hasn't ended.
-    Open(Phase),
+    Open(Standing),
     /// It ended before the byte of this place.
     Ended(usize),
     /// It is broken.
@@ -75,35 +97,74 @@ pub const EMPTY_LINE: SizeLine = SizeLine {
     part: Part::Digits,
 };
 
-/// A chunked body of which nothing was read.
-pub const FIRST: Phase = Phase::Line(EMPTY_LINE);
+/// A chunked body of which nothing was read, whose content has at most so many bytes.
+pub fn first(limit: usize) -> Standing
+    ensures { result ≡ first limit }
+{
+    Standing {
+        spare: frame_bytes(limit),
+        phase: Phase::Line(EMPTY_LINE),
+    }
+}
+
+// How many bytes beside its content a chunked body may have, whose content has at most so many.
+fn frame_bytes(limit: usize) -> usize
+    ensures { result ≡ frame_bytes limit }
+{
+    limit / CHUNK_BYTES * CHUNK_FRAME_BYTES + CHUNK_LINE_BYTES + TRAILER_BYTES
+}
 
 /// What these bytes say of a chunked body with this content so far, to which theirs is added.
 pub fn read_chunks(
     bytes: &[u8],
-    phase: Phase,
+    standing: Standing,
     limit: usize,
     content: &mut Vec<u8>,
 ) -> Result<Chunks, Memory>
-    ensures told { IfOk result (λ chunks. Tells chunks content.new.items bytes.now (chunks_from limit phase content.old.items bytes.now)) }
-    ensures light { IfOk result (λ chunks. StaysLight limit phase content.old.items content.new.items bytes.now chunks) }
+    ensures told { IfOk result (λ chunks. Tells chunks content.new.items bytes.now (chunks_from limit standing content.old.items bytes.now)) }
+    ensures light { IfOk result (λ chunks. StaysLight limit standing content.old.items content.new.items bytes.now chunks) }
 {
-    let mut phase = phase;
+    let mut standing = standing;
     for (place, byte) in bytes.iter().enumerate() {
-        match chunk_byte(limit, content.len(), phase, *byte) {
-            Chunk::On(next) => phase = next,
-            Chunk::Keeps(next) => {
+        match framed_byte(limit, content.len(), standing, *byte) {
+            Step::On(next) => standing = next,
+            Step::Keeps(next) => {
                 content.push(*byte)?;
-                phase = next;
+                standing = next;
             }
-            Chunk::Ended => return Ok(Chunks::Ended(place + 1)),
-            Chunk::Broken(fault) => return Ok(Chunks::Broken(fault)),
+            Step::Ended => return Ok(Chunks::Ended(place + 1)),
+            Step::Broken(fault) => return Ok(Chunks::Broken(fault)),
         }
     }
-    Ok(Chunks::Open(phase))
+    Ok(Chunks::Open(standing))
 }
 
-// What one byte says after so many bytes of content.
+// What one byte says after so many bytes of content, where no more bytes beside it come than may.
+fn framed_byte(limit: usize, held: usize, standing: Standing, byte: u8) -> Step
+    ensures step { result ≡ framed_byte limit held standing byte }
+    ensures lighter { IsStepLighter limit held standing result }
+{
+    framed_by(standing, chunk_byte(limit, held, standing.phase, byte))
+}
+
+// The same of what the byte says by itself.
+fn framed_by(standing: Standing, chunk: Chunk) -> Step
+    ensures { result ≡ framed_by standing chunk }
+{
+    let spare = standing.spare;
+    match chunk {
+        Chunk::Keeps(phase) => Step::Keeps(Standing { spare, phase }),
+        Chunk::Broken(fault) => Step::Broken(fault),
+        Chunk::On(_) | Chunk::Ended if spare == 0 => Step::Broken(HttpFault::BodyLong),
+        Chunk::On(phase) => Step::On(Standing {
+            spare: spare - 1,
+            phase,
+        }),
+        Chunk::Ended => Step::Ended,
+    }
+}
+
+// What one byte says after so many bytes of content, however many came beside it.
 fn chunk_byte(limit: usize, held: usize, phase: Phase, byte: u8) -> Chunk
     ensures chunk { result ≡ chunk_byte limit held phase byte }
     ensures lighter { IsLighter limit held phase result }

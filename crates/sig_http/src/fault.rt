@@ -4,22 +4,27 @@ use thiserror::Error;
 /// Why no message is read.
 #[derive(Clone, Copy, Debug, PartialEq, Eq, Error)]
 pub enum HttpFault {
-    /// The head section is no head of HTTP/1.0 or HTTP/1.1 of at most `HEADER_FIELDS` fields (RFC 9112, sections 2 to 5).
+    /// The head section is no head of HTTP/1.0 or HTTP/1.1 of at most `HEADER_FIELDS` fields (RFC 9112, sections 2 to 5),
+    /// or the target of a request has a fragment (section 3.2).
     #[error("the head is no HTTP head")]
     Head,
+    /// A request of HTTP/1.1 has no field `host`, or a request has several (RFC 9112, section 3.2).
+    #[error("the request doesn't say its host once")]
+    Host,
     /// The head section has more than `HEAD_BYTES` bytes, or more lines than those fields need.
     #[error("the head is too long")]
     HeadLong,
     /// How the body ends isn't said, or is said twice (RFC 9112, section 6.3), or a chunk is malformed (section 7.1).
     #[error("the body's end isn't said")]
     Length,
-    /// The body has more than `REQUEST_BODY_BYTES` or `RESPONSE_BODY_BYTES` bytes.
+    /// The body has more than `REQUEST_BODY_BYTES` or `RESPONSE_BODY_BYTES` bytes, or in chunks more bytes beside them than a
+    /// body of that length has in chunks of `CHUNK_BYTES`.
     #[error("the body is too long")]
     BodyLong,
     /// The body of a request has a coding other than `identity` (RFC 9110, section 8.4).
     #[error("the body has a coding")]
     Coding,
-    /// A request wants `expect` to be met (RFC 9110, section 10.1.1).
+    /// A request of HTTP/1.1 wants `expect` to be met (RFC 9110, section 10.1.1).
     #[error("the request has an expectation")]
     Expect,
     /// The source ended within a message.

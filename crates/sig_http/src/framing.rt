@@ -4,6 +4,7 @@ ghost use Rattle.sig_http.specs.Framing as spec;
 
 use crate::HttpFault;
 use crate::fields::{all_say, count_named, first_value, lengths_are};
+use crate::target::has_fragment;
 use crate::values::number_of;
 use httparse::spans::HeaderSpan;
 use sig_json::limits::{REQUEST_BODY_BYTES, RESPONSE_BODY_BYTES};
@@ -19,11 +20,23 @@ pub enum Framing {
     End,
 }
 
-/// The fault that the fields of a request decide: the first of those that there are.
-pub fn request_fault(bytes: &[u8], headers: &[HeaderSpan]) -> Option<HttpFault>
-    ensures { result ≡ spec.request_fault (fields_at bytes.now headers.now) }
+/// The fault that the version of a request, HTTP/1 and this number, its target and its fields decide: the first of those
+/// that there are.
+pub fn request_fault(
+    minor: u8,
+    target: &[u8],
+    bytes: &[u8],
+    headers: &[HeaderSpan],
+) -> Option<HttpFault>
+    ensures { result ≡ spec.request_fault minor target.now (fields_at bytes.now headers.now) }
 {
-    if count_named(bytes, headers, "expect") > 0 {
+    if has_fragment(target) {
+        return Some(HttpFault::Head);
+    }
+    if !is_hosted(minor, bytes, headers) {
+        return Some(HttpFault::Host);
+    }
+    if minor > 0 && count_named(bytes, headers, "expect") > 0 {
         return Some(HttpFault::Expect);
     }
     if !all_say(bytes, headers, "content-encoding", "identity") {
@@ -34,6 +47,16 @@ pub fn request_fault(bytes: &[u8], headers: &[HeaderSpan]) -> Option<HttpFault>
         REQUEST_BODY_BYTES,
         request_framing(bytes, headers),
     )
+}
+
+// Whether a request says its host once, or is of HTTP/1.0 and says none.
+fn is_hosted(minor: u8, bytes: &[u8], headers: &[HeaderSpan]) -> bool
+    ensures { result ≡ spec.is_hosted minor (fields_at bytes.now headers.now) }
+{
+    match count_named(bytes, headers, "host") {
+        0 => minor == 0,
+        count => count == 1,
+    }
 }
 
 /// The fault that the status and the fields of a response decide: the first of those that there are.
@@ -99,11 +122,25 @@ pub fn request_framing(bytes: &[u8], headers: &[HeaderSpan]) -> Framing
     Framing::Length(length_in(bytes, headers))
 }
 
-/// How the body of a response ends: one of status 204 or 304 has none.
+// Whether a response of this status has no body (RFC 9112, section 6.3).
+fn is_bodiless(status: u16) -> bool
+    ensures { result ≡ spec.is_bodiless status }
+{
+    status == 204 || status == 304 || is_informational(status)
+}
+
+// Whether a status is 1xx (RFC 9110, section 15.2).
+fn is_informational(status: u16) -> bool
+    ensures { result ≡ spec.is_informational status }
+{
+    status >= 100 && status < 200
+}
+
+/// How the body of a response ends: one of status 1xx, 204 or 304 has none.
 pub fn response_framing(status: u16, bytes: &[u8], headers: &[HeaderSpan]) -> Framing
     ensures { result ≡ spec.response_framing status (fields_at bytes.now headers.now) }
 {
-    if status == 204 || status == 304 {
+    if is_bodiless(status) {
         return Framing::Length(0);
     }
     if count_named(bytes, headers, "transfer-encoding") > 0 {

@@ -1,5 +1,4 @@
 ghost use Rattle.std.specs.Prelude.{◌≡◌, ◌≤◌, [], None, IfOk, IfErr, IfSome, IsUtf8, length, option_map};
-ghost use Rattle.std.specs.List.{after_first, before_first};
 ghost use Rattle.sig_json.specs.declared.limits.TheConstants.{HEADER_FIELDS};
 ghost use Rattle.httparse.specs.Grammar.{RequestHead, ResponseHead};
 ghost use Rattle.httparse.specs.Spans.{IsRequestAt, IsResponseAt, span_bytes};
@@ -9,6 +8,7 @@ ghost use Rattle.sig_http.specs.Heads as heads;
 
 use crate::fields::{closes, first_value, part};
 use crate::framing::{Framing, request_fault, request_framing, response_fault, response_framing};
+use crate::target::{path_of, split_target};
 use crate::values::after_bearer;
 use crate::{HttpFault, Request, Response};
 use http::Method;
@@ -30,7 +30,8 @@ pub fn request_head(alloc: Global, section: &[u8]) -> Result<(Request, Framing),
         return Err(HttpFault::Head);
     };
     let fields = headers.as_slice().split_at(spans.headers).0;
-    if let Some(fault) = request_fault(section, fields) {
+    let target = part(section, spans.path);
+    if let Some(fault) = request_fault(spans.version, target, section, fields) {
         return Err(fault);
     }
     let request = request_of(alloc, section, &spans, fields)?;
@@ -59,31 +60,15 @@ fn request_of(
     requires { IsUtf8 (span_bytes section.now spans.now.path) }
     ensures { IfOk result (λ request. request ≡ spec.request_from (span_bytes section.now spans.now.method) (span_bytes section.now spans.now.path) spans.now.version (fields_at section.now headers.now) []) }
 {
-    let (path, query) = split_target(part(section, spans.path));
+    let (target, query) = split_target(part(section, spans.path));
     Ok(Request {
         method: method_of(alloc, part(section, spans.method))?,
-        path: Text::of(alloc, path)?,
+        path: path_of(alloc, target)?,
         query: Text::of(alloc, query)?,
         bearer: bearer_of(alloc, first_value(section, headers, "authorization"))?,
         close: is_closing(spans.version, section, headers),
         body: Bytes::new(alloc),
     })
-}
-
-// The parts of a target before and after its first `?`, of which the second is empty where there is none.
-fn split_target(target: &[u8]) -> (&str, &str)
-    requires { IsUtf8 target.now }
-    ensures path { result.0.now ≡ before_first spec.is_question_mark target.now }
-    ensures query { result.1.now ≡ after_first spec.is_question_mark target.now }
-{
-    let Ok(target) = str::from_utf8(target) else {
-        // It is UTF-8.
-        unreachable!()
-    };
-    match target.split_once('?') {
-        Some(parts) => parts,
-        None => (target, ""),
-    }
 }
 
 // Whether the link closes after a message.

@@ -29,6 +29,7 @@ mod piece;
 mod query;
 mod reading;
 mod section;
+mod target;
 mod values;
 mod writing;
 

@@ -8,7 +8,7 @@ ghost use Rattle.sig_http.specs.Message.{Reads, ReadsResponseOf, Refuses, Refuse
 
 use crate::body::{Body, read_body};
 use crate::head::{request_head, response_head};
-use crate::piece::take_piece;
+use crate::piece::{Room, take_piece};
 use crate::section::{START, Section, scan_section};
 use crate::{Got, HttpFault, Kept, Request, Response};
 use sig_json::Bytes;
@@ -20,7 +20,7 @@ use std::alloc::Global;
 ///
 /// `Got::End` comes exactly where the source ended before the first byte of a request. A fault is the one that the shortest
 /// prefix of the bytes decides, and of those that one prefix decides it is the first in the order of `HttpFault`'s head
-/// faults: `HeadLong`, `Head`, `Expect`, `Coding`, `Length`, `BodyLong`. `Cut` comes where the source ends before any is
+/// faults: `HeadLong`, `Head`, `Host`, `Expect`, `Coding`, `Length`, `BodyLong`. `Cut` comes where the source ends before any is
 /// decided, and `Link` exactly where one of its calls failed: the count of its faults is raised by one, and stays otherwise. After a fault the source isn't to be used any more.
 pub fn read_request<S: Source>(
     alloc: Global,
@@ -40,13 +40,14 @@ pub fn read_request<S: Source>(
     ensures beside { S.beside source.new ≡ S.beside source.old }
     ensures later { S.faults source.old ≤ S.faults source.new }
 {
+    let mut room = Room::new(alloc)?;
     let mut held = kept.take(alloc);
-    let Some(count) = take_section(&mut held, source)? else {
+    let Some(count) = take_section(&mut held, source, &mut room)? else {
         return Ok(Got::End);
     };
     let after = held.split_off(count)?;
     let (mut request, framing) = request_head(alloc, held.as_slice())?;
-    let body = read_body(alloc, source, REQUEST_BODY_BYTES, framing, after)?;
+    let body = read_body(alloc, source, &mut room, REQUEST_BODY_BYTES, framing, after)?;
     kept.put(body.rest);
     request.body = Bytes::from_vec(body.content);
     Ok(Got::Request(request))
@@ -55,7 +56,7 @@ pub fn read_request<S: Source>(
 /// Reads the next response of a source, from the bytes that were kept of it on. The caller lends the same source each time.
 ///
 /// A response without a length and a coding ends where the source ends. `Cut` comes where the source ends within a
-/// response, and where it gives none; `Expect` and `Coding` never come, and the other faults as for requests.
+/// response, and where it gives none; `Host`, `Expect` and `Coding` never come, and the other faults as for requests.
 pub fn read_response<S: Source>(
     alloc: Global,
     source: &mut S,
@@ -74,20 +75,32 @@ pub fn read_response<S: Source>(
     ensures beside { S.beside source.new ≡ S.beside source.old }
     ensures later { S.faults source.old ≤ S.faults source.new }
 {
+    let mut room = Room::new(alloc)?;
     let mut held = kept.take(alloc);
-    let Some(count) = take_section(&mut held, source)? else {
+    let Some(count) = take_section(&mut held, source, &mut room)? else {
         return Err(HttpFault::Cut);
     };
     let after = held.split_off(count)?;
     let (mut response, framing) = response_head(alloc, held.as_slice())?;
-    let body = read_body(alloc, source, RESPONSE_BODY_BYTES, framing, after)?;
+    let body = read_body(
+        alloc,
+        source,
+        &mut room,
+        RESPONSE_BODY_BYTES,
+        framing,
+        after,
+    )?;
     kept.put(body.rest);
     response.body = Bytes::from_vec(body.content);
     Ok(response)
 }
 
 // Takes a whole head section, and answers how long it is; none where the source gives no byte.
-fn take_section<S: Source>(held: &mut Vec<u8>, source: &mut S) -> Result<Option<usize>, HttpFault>
+fn take_section<S: Source>(
+    held: &mut Vec<u8>,
+    source: &mut S,
+    room: &mut Room,
+) -> Result<Option<usize>, HttpFault>
     ensures draws { Draws held.old.items held.new.items (S.left source.old) (S.left source.new) }
     ensures taken { IfOk result (λ taken. TakesSection taken held.new.items (S.left source.new)) }
     ensures bound { IfOk result (λ taken. IfSome taken (λ count. length held.new.items ≤ count + max (length held.old.items) PIECE_BYTES)) }
@@ -105,7 +118,7 @@ fn take_section<S: Source>(held: &mut Vec<u8>, source: &mut S) -> Result<Option<
             Section::Long => return Err(HttpFault::HeadLong),
         }
         judged = held.len();
-        if take_piece(held, source)? == 0 {
+        if take_piece(held, source, room)? == 0 {
             return if judged == 0 {
                 Ok(None)
             } else {

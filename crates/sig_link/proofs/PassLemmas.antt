@@ -23,6 +23,7 @@ use Rattle.sig_link.specs.Serving.{Answered, AnswersBy, AnswersRequest, Begins, 
 tallied : (fault : HttpFault) (before now : ℕ) → (fault ≡ faults.Link → Raised before now) → ((fault ≡ faults.Link → ⊥) → now ≡ before) → Tallies fault before now
 tallied faults.Link before now link steady = link refl
 tallied faults.Head before now link steady = steady (λ e. cc)
+tallied faults.Host before now link steady = steady (λ e. cc)
 tallied faults.HeadLong before now link steady = steady (λ e. cc)
 tallied faults.Length before now link steady = steady (λ e. cc)
 tallied faults.BodyLong before now link steady = steady (λ e. cc)

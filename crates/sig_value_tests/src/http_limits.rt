@@ -23,7 +23,7 @@ fn source(alloc: Global, bytes: Bytes) -> Result<MemSource, Memory> {
 fn in_chunks(alloc: Global) -> Result<Bytes, Memory> {
     let mut bytes = Bytes::of(
         alloc,
-        b"POST / HTTP/1.1\r\ntransfer-encoding: chunked\r\n\r\n8000\r\n",
+        b"POST / HTTP/1.1\r\nhost: a\r\ntransfer-encoding: chunked\r\n\r\n8000\r\n",
     )?;
     fill(&mut bytes, 512)?;
     bytes.add(b"\r\n8000\r\n")?;

@@ -29,6 +29,7 @@ fn end_word(end: LinkEnd) -> &'static str {
 fn fault_word(fault: HttpFault) -> &'static str {
     match fault {
         HttpFault::Head => "head",
+        HttpFault::Host => "host",
         HttpFault::HeadLong => "head-long",
         HttpFault::Length => "length",
         HttpFault::BodyLong => "body-long",

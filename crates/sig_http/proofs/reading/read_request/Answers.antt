@@ -9,7 +9,7 @@ use Rattle.sig_http.proofs.reading.read_request.Goals as goal
 
 pub returns-in_err-count-clause-refused : goal.returns-in_err-count-clause-refused
 returns-in_err-count-clause-refused g c =
-    let is : c.from_residual.result ≡ Err c.in_err-count.field-0.0 = search rules in
+    let is : c.from_residual-in_err-count.result ≡ Err c.in_err-count.field-0.0 = search rules in
     rw is (section_refused FindsRequest requests c.args.kept.now c.take_section.new.held.items c.in_err-count.field-0.0 _ _ (draws_from _ _ _ _ _ c.take-held.ensures.taken c.in_err-count.ensures.draws) c.in_err-count.ensures.refused)
 
 pub returns-in_err-request-clause-refused : goal.returns-in_err-request-clause-refused
@@ -36,10 +36,10 @@ returns-clause-found g c =
     (ap (λ b. record c.in_ok-request.request { body = b }) c.from_vec.ensures) c.put.ensures.kept
 
 pub returns-in_err-count-clause-link : goal.returns-in_err-count-clause-link
-returns-in_err-count-clause-link g c = link_raises c.from_residual.result c.in_err-count.field-0.0 _ _ _ (search rules) refl c.in_err-count.ensures.tally
+returns-in_err-count-clause-link g c = link_raises c.from_residual-in_err-count.result c.in_err-count.field-0.0 _ _ _ (search rules) refl c.in_err-count.ensures.tally
 
 pub returns-in_err-count-clause-steady : goal.returns-in_err-count-clause-steady
-returns-in_err-count-clause-steady g c = other_leaves c.from_residual.result c.in_err-count.field-0.0 _ _ _ (search rules) refl c.in_err-count.ensures.tally
+returns-in_err-count-clause-steady g c = other_leaves c.from_residual-in_err-count.result c.in_err-count.field-0.0 _ _ _ (search rules) refl c.in_err-count.ensures.tally
 
 pub returns-in_err-count-clause-later : goal.returns-in_err-count-clause-later
 returns-in_err-count-clause-later g c = none_lowers c.in_err-count.field-0.0 _ _ _ refl c.in_err-count.ensures.tally

@@ -1,7 +1,7 @@
 use Rattle.std.proofs.Common.{ap, ◌∙◌, arith}
 use Rattle.std.specs.List.{before_first, after_first}
 use Rattle.sig_http.specs.Message.{is_question_mark}
-use Rattle.sig_http.proofs.head.split_target.Goals as goal
+use Rattle.sig_http.proofs.target.split_target.Goals as goal
 
 pub returns-in-Some : goal.returns-in-Some
 returns-in-Some c = record {
