@@ -17,18 +17,9 @@ pub fn fault_of(alloc: Global, fault: &HttpFault) -> Result<Option<Response>, Me
     ensures { IfOk result (λ response. response ≡ spec.closing_of fault.now) }
 {
     Ok(match fault {
-        HttpFault::Head => Some(bad_request(
-            alloc,
-            b"{\"description\":\"head\"}",
-        )?),
-        HttpFault::Host => Some(bad_request(
-            alloc,
-            b"{\"description\":\"host\"}",
-        )?),
-        HttpFault::Length => Some(bad_request(
-            alloc,
-            b"{\"description\":\"length\"}",
-        )?),
+        HttpFault::Head => Some(bad_request(alloc, b"{\"description\":\"head\"}")?),
+        HttpFault::Host => Some(bad_request(alloc, b"{\"description\":\"host\"}")?),
+        HttpFault::Length => Some(bad_request(alloc, b"{\"description\":\"length\"}")?),
         HttpFault::HeadLong => Some(closing(alloc, 431)),
         HttpFault::BodyLong => Some(closing(alloc, 413)),
         HttpFault::Coding => Some(closing(alloc, 415)),

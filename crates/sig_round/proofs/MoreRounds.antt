@@ -23,8 +23,15 @@ pub rounded_on : (rules : Rules) (by : Asker) (s : List ℕ) (streams : List (Li
 rounded_on rules by s streams a b c x y z k l m starved p q = record {
   more = p.rounded.more ++ q.more;
   adds = adds_on p.rounded.more q.more x y z k l m p.rounded.adds q.adds;
-  rounds = (b, p.one, p.rounded.more, q.more, refl, p.rounded.round,
-      next_follows (is_starved p.one) (AreRounds rules by streams b c q.more starved) _ p.outcome q.rounds);
+  rounds = (
+    b,
+    p.one,
+    p.rounded.more,
+    q.more,
+    refl,
+    p.rounded.round,
+    next_follows (is_starved p.one) (AreRounds rules by streams b c q.more starved) _ p.outcome q.rounds,
+  );
 }
 
 -- a round of one stream in which memory ran out
@@ -33,8 +40,15 @@ pub rounded_out : (rules : Rules) (by : Asker) (s : List ℕ) (streams : List (L
 rounded_out rules by s streams a b x y k l p = record {
   more = p.rounded.more;
   adds = p.rounded.adds;
-  rounds = (b, p.one, p.rounded.more, [], sym (append-nil p.rounded.more), p.rounded.round,
-      next_ended (is_starved p.one) (AreRounds rules by streams b b [] true) _ p.outcome (refl, refl, refl));
+  rounds = (
+    b,
+    p.one,
+    p.rounded.more,
+    [],
+    sym (append-nil p.rounded.more),
+    p.rounded.round,
+    next_ended (is_starved p.one) (AreRounds rules by streams b b [] true) _ p.outcome (refl, refl, refl),
+  );
 }
 
 pub rounded_none : (rules : Rules) (by : Asker) (view : SideView) (x : List Turn) (k : Option TakerTold) → AllRounded rules by [] view view x x k k false
