@@ -24,9 +24,6 @@ byte_fits i limb byte h k m =
     let power : 256 ^ (i + 1) ≤ 256 ^ 8 = pow-le-pow_right {n = 256} (omega arith) {i = i + 1} {j = 8} (omega arith) in
     omega (arith, below, power, weight_one 256 i)
 
-pub byte_below : (i limb byte : ℕ) → limb < 256 ^ i → byte < 256 → limb * 256 + byte < 256 ^ (i + 1)
-byte_below i limb byte k m = omega (arith, weight_one 256 i)
-
 -- the eight bytes before a place, or as many as there are
 step_before : (bytes : List ℕ) (i e : ℕ) → e ≡ length bytes - 8 * i
     → number (drop (e - 8) bytes) ≡ number (take (e - (e - 8)) (drop (e - 8) bytes)) * (2 ^ 64) ^ i + number (drop e bytes)

@@ -1,5 +1,5 @@
 -- Which bytes spell a modulus.
-use Rattle.std.proofs.Common.{◌≡◌, ℕ, zero, suc, ◌+◌, ◌-◌, ◌*◌, ◌^◌, ◌%◌, ◌<◌, ◌≤◌, ◌==◌, ◌⊎◌, inl, inr, Bool, true, false, List, [], ◌∷◌, length, ap, sym, ◌∙◌, refl, subst, arith}
+use Rattle.std.proofs.Common.{◌≡◌, ℕ, ◌+◌, ◌-◌, ◌*◌, ◌^◌, ◌%◌, ◌<◌, ◌≤◌, ◌==◌, ◌⊎◌, inl, inr, true, false, List, [], ◌∷◌, length, ap, sym, ◌∙◌, refl, subst, arith}
 use Rattle.std.specs.Prelude.{◌&&◌, nat_eq, nat_le, nat_lt, slice_index}
 use Rattle.std.specs.Bool.{Decides}
 use Rattle.std.specs.Int.Digits.{AllBelowBase}
@@ -8,7 +8,6 @@ use Rattle.std.proofs.lemmas.Nat.{mul-le}
 use Rattle.std.proofs.lemmas.Int.Digits.{number_lt}
 use Rattle.std.proofs.lemmas.Bool.{and_from, and_parts, cases_lt, eq-eqb, eqb-true, false_from_ne_true, le-leb, leb-true, lt-ltb, ltb-true}
 use Rattle.std.proofs.lemmas.Bool.Decides.{Decides-like, Decides-ltb, same_from_decides}
-use Rattle.sig_number.specs.declared.modulus.TheConstants.{MODULUS_BYTES_LEAST, MODULUS_BYTES_MOST}
 use Rattle.sig_number.specs.Laws.{DecidesModuli}
 use Rattle.sig_number.specs.Modulus.{IsModulus, is_modulus, is_sized, least_modulus, number}
 use Rattle.sig_number.proofs.ByteLemmas.{number_first, odd_last}

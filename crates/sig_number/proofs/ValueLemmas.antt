@@ -1,8 +1,7 @@
 -- Limbs and their number.
-use Rattle.std.proofs.Common.{◌≡◌, ℕ, zero, suc, ◌+◌, ◌*◌, ◌^◌, ◌<◌, ◌≤◌, ◌%◌, ◌/◌, List, [], ◌∷◌, ◌++◌, length, get_or, set, take, drop, replicate, Bool, true, false, ◌↔◌, ◌⊎◌, inl, inr, refl, ap, sym, add_assoc, ◌∙◌, subst, Fits, w64, arith, add-one}
+use Rattle.std.proofs.Common.{◌≡◌, ℕ, zero, suc, ◌+◌, ◌*◌, ◌^◌, ◌<◌, ◌≤◌, ◌%◌, ◌/◌, List, [], ◌∷◌, ◌++◌, length, get_or, set, take, drop, replicate, ◌⊎◌, inl, inr, refl, ap, sym, add_assoc, ◌∙◌, subst, Fits, w64, arith, add-one}
 use Rattle.std.proofs.Math.Nat.{pow-suc, pow-zero, mul-le-mul_left}
 use Rattle.std.proofs.lemmas.Nat.{pow-add, div-mul-add, mod-mul-add, same_from_place}
-use Rattle.std.specs.Int.{from_bool}
 use Rattle.std.proofs.lemmas.List.{take_more_set, length-take-le, take-append-drop, get_or-take, get_or_past, drop_more, drop-drop, get_or-drop}
 use Rattle.std.proofs.lemmas.Bool.{cases_lt}
 use Rattle.sig_number.specs.Value.{value_in}
@@ -131,11 +130,6 @@ same_limbs b (x ∷ xs) [] k m l e = absurd (omega arith)
 same_limbs b (x ∷ xs) (y ∷ ys) k m l e =
     let parts = same_from_place (value_in b xs) x (value_in b ys) y b (k 0) (m 0) (omega (arith, e)) in
     ap (λ z. z ∷ xs) parts.1 ∙ ap (λ z. y ∷ z) (same_limbs b xs ys (λ i. k (suc i)) (λ i. m (suc i)) (omega arith) parts.0)
-
--- a borrow says which of two numbers is below the other
-pub borrowed_below : (o x y w : ℕ) (r : Bool) → o < w → o + y ≡ x + w * from_bool r → (r ≡ true) ↔ (x < y)
-borrowed_below o x y w true h e = (λ _. omega arith, λ _. refl)
-borrowed_below o x y w false h e = (λ q. cc q, λ q. absurd (omega arith))
 
 pub first_limb : (b : ℕ) (xs : List ℕ) → 0 < length xs → ((k : ℕ) → get_or xs k 0 < b) → get_or xs 0 0 ≡ value_in b xs % b
 first_limb b [] h k = absurd (omega arith)

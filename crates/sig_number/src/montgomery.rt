@@ -68,8 +68,8 @@ fn add_cleared(total: &mut [u64], left: &[u64], right: &[u64], modulus: &[u64], 
 fn clearing_multiple(total: &[u64], place: usize, factor: &[u64], limb: u64, inverse: u64) -> u64
     requires place { place < length total.now }
     requires some { 0 < length factor.now }
-    ensures { result
-        ≡ ((value total.now + weight place * (limb * value factor.now)) / weight place % 2 ^ 64 * inverse) % 2 ^ 64 }
+    ensures { result ≡ ((value total.now + weight place * (limb * value factor.now))
+        / weight place % 2 ^ 64 * inverse) % 2 ^ 64 }
 {
     total[place]
         .wrapping_add(limb.wrapping_mul(factor[0]))
@@ -97,7 +97,8 @@ pub(crate) fn reduce(out: &mut [u64], low: &[u64], top: u64, modulus: &[u64])
     requires out { length out.old ≡ length modulus.now }
     requires low { length low.now ≡ length modulus.now }
     requires below { top * weight (length modulus.now) + value low.now < 2 * value modulus.now }
-    ensures { value out.new ≡ (top * weight (length modulus.now) + value low.now) % value modulus.now }
+    ensures { value out.new
+        ≡ (top * weight (length modulus.now) + value low.now) % value modulus.now }
 {
     let borrowed = subtract(out, low, modulus);
     if borrowed && top == 0 {

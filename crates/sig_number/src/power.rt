@@ -49,7 +49,8 @@ fn raise(out: &mut [u64], form: &[u64], exponent: u32, modulus: &[u64], inverse:
     ensures below { value out.new < value modulus.now }
     ensures power { (z : ℕ)
         → value form.now % value modulus.now ≡ (weight (length modulus.now) * z) % value modulus.now
-        → value out.new % value modulus.now ≡ (weight (length modulus.now) * z ^ exponent) % value modulus.now }
+        → value out.new % value modulus.now
+        ≡ (weight (length modulus.now) * z ^ exponent) % value modulus.now }
 {
     if exponent == 1 {
         out.copy_from_slice(form);

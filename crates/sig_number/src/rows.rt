@@ -17,10 +17,11 @@ pub(crate) fn add_two_rows(
 )
     requires place { place + length factor.now ≤ length total.old }
     requires length { length modulus.now ≡ length factor.now }
-    requires room { value total.old + weight place * (limb * value factor.now + multiple * value modulus.now)
+    requires room { value total.old
+        + weight place * (limb * value factor.now + multiple * value modulus.now)
         < weight (length total.old) }
-    ensures { value total.new
-        ≡ value total.old + weight place * (limb * value factor.now + multiple * value modulus.now) }
+    ensures { value total.new ≡ value total.old
+        + weight place * (limb * value factor.now + multiple * value modulus.now) }
 {
     let (first, second) = add_two_products(total, place, factor, limb, modulus, multiple);
     add_carry(total, place + factor.len(), first);
@@ -39,7 +40,8 @@ fn add_two_products(
     requires place { place + length factor.now ≤ length total.old }
     requires length { length modulus.now ≡ length factor.now }
     ensures { value total.new + weight (place + length factor.now) * (result.0 + result.1)
-        ≡ value total.old + weight place * (limb * value factor.now + multiple * value modulus.now) }
+        ≡ value total.old
+        + weight place * (limb * value factor.now + multiple * value modulus.now) }
 {
     let mut first: u64 = 0;
     let mut second: u64 = 0;

@@ -1,7 +1,7 @@
 -- Which modulus and exponent are a key.
-use Rattle.std.proofs.Common.{◌≡◌, ℕ, ◌%◌, ◌^◌, ◌<◌, ◌≤◌, ◌==◌, Bool, true, false, List, ap, sym, arith}
-use Rattle.std.specs.Prelude.{◌&&◌, nat_eq, nat_le, nat_lt}
-use Rattle.std.proofs.lemmas.Bool.{and_from, and_parts, eq-eqb, eqb-true, false_from_ne_true, le-leb, leb-true, lt-ltb, ltb-true}
+use Rattle.std.proofs.Common.{◌%◌, ◌^◌, ◌==◌}
+use Rattle.std.specs.Prelude.{◌&&◌, nat_le, nat_lt}
+use Rattle.std.proofs.lemmas.Bool.{and_from, and_parts, eq-eqb, eqb-true, le-leb, leb-true, lt-ltb, ltb-true}
 use Rattle.sig_number.specs.Modulus.{is_modulus}
 use Rattle.sig_number.proofs.SizeLemmas.{decides_moduli}
 use Rattle.sig_rs256.specs.Keys.{is_exponent, is_key}
@@ -26,12 +26,3 @@ decides_keys modulus exponent = (
       (and_from (nat_le 3 exponent) (nat_lt exponent (2 ^ 32)) (le-leb 3 exponent k.least) (lt-ltb exponent (2 ^ 32) k.most))
       (eq-eqb (exponent % 2) 1 k.odd)),
 )
-
-pub large_test : (e : ℕ) → 3 ≤ e → e < 2 ^ 32 → nat_eq (e % 2) 1 ≡ is_exponent e
-large_test e h k = sym (ap (λ z. z && (e % 2 == 1)) (and_from (nat_le 3 e) (nat_lt e (2 ^ 32)) (le-leb 3 e h) (lt-ltb e (2 ^ 32) k)))
-
-pub small_test : (e : ℕ) → e < 3 → false ≡ is_exponent e
-small_test e h = sym (false_from_ne_true (is_exponent e) (λ q.
-    let a = and_parts (nat_le 3 e && nat_lt e (2 ^ 32)) (e % 2 == 1) q in
-    let b = leb-true 3 e (and_parts (nat_le 3 e) (nat_lt e (2 ^ 32)) a.0).0 in
-    omega arith))

@@ -1,7 +1,6 @@
 -- What a signature's test finds.
-use Rattle.std.proofs.Common.{◌≡◌, ℕ, ◌%◌, ◌^◌, ◌<◌, Bool, true, List, length, ap, sym, ◌∙◌, ◌↔◌, subst}
+use Rattle.std.proofs.Common.{◌≡◌, ℕ, ◌%◌, ◌^◌, Bool, List, length, ◌↔◌, subst}
 use Rattle.std.specs.Prelude.{◌&&◌, IsTrue, nat_eq, nat_lt}
-use Rattle.std.specs.Bool.{Decides}
 use Rattle.std.proofs.lemmas.Bool.{and_from, and_parts, eq-eqb, eqb-true, lt-ltb, ltb-true}
 use Rattle.std.proofs.lemmas.Bool.Decides.{same_from_decides}
 use Rattle.sig_number.specs.Modulus.{IsPower, Spelled, number, spelled}

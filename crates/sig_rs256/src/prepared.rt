@@ -20,9 +20,9 @@ pub struct PreparedRsaKey {
 }
 
 impl Model for PreparedRsaKey {
-    ghost use Rattle.std.specs.Prelude.{◌≡◌, IsTrue};
+    ghost use Rattle.std.specs.Prelude.{◌≡◌};
     ghost use Rattle.sig_number.specs.Modulus.{spelled};
-    ghost use Rattle.sig_rs256.specs.Keys.{PublicKey, is_key};
+    ghost use Rattle.sig_rs256.specs.Keys.{PublicKey};
 
     ghost Value = { PublicKey };
 
