@@ -88,8 +88,8 @@ fn issuer_of(alloc: Global, iss: &str, key: &str) -> Result<Option<Issuer>, Memo
 {
     match cut_at_colon(key) {
         None => secret_issuer(alloc, iss, key),
-        Some((name, words)) => {
-            if name != "rs256" {
+        Some((algorithm, words)) => {
+            if algorithm != "rs256" {
                 return Ok(None);
             }
             public_key_issuer(alloc, iss, words)
