@@ -8,7 +8,7 @@ ghost use Rattle.sig_rxsettings.specs.Settings as spec;
 
 use crate::issuer::IssuerList;
 use crate::peer::{peer_in, with_gateway};
-use crate::principal::PrincipalList;
+use crate::principal::principals_in;
 use sig_json::Value;
 use sig_outside::Place;
 use sig_rxnode::RxRules;
@@ -49,8 +49,8 @@ fn rx_settings_in(alloc: Global, settings: &Value) -> Result<RxSettings, Setting
     let listen = needed::<PlaceText>(alloc, settings, "listen")?;
     let reader = needed::<BearerText>(alloc, settings, "reader")?;
     let issuers = needed::<IssuerList>(alloc, settings, "issuers")?;
-    let principals = needed::<PrincipalList>(alloc, settings, "principals")?;
-    let peer = peer_in(alloc, settings)?;
+    let principals = principals_in(alloc, settings, &reader)?;
+    let peer = peer_in(alloc, settings, &reader, principals.as_slice())?;
     let gateway = optional::<PlaceText>(alloc, settings, "tls_gateway")?;
     let rules = RxRules {
         trust: Trust { audience, issuers },
