@@ -80,8 +80,9 @@ def judge(trust, principal, named, data):
     issuers = [issuer for issuer in trust["issuers"] if issuer["iss"] == payload["iss"]]
     check(issuers, "invalid_issuer", "iss")
     check(principal == payload["iss"], "access_denied", "iss")
-    check(header.get("alg") == "HS256", "invalid_key", "alg")
-    keys = issuers[0]["keys"]
+    check(header.get("alg") in ("HS256", "RS256"), "invalid_key", "alg")
+    # No case trusts a public key.
+    keys = issuers[0]["keys"] if header["alg"] == "HS256" else []
     if "kid" in header:
         kid = header["kid"]
         keys = [key for key in keys if isinstance(kid, str) and key["kid"] in (None, kid)]

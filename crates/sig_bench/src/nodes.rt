@@ -151,6 +151,7 @@ fn rules(alloc: Global) -> Result<RxRules, Memory> {
     issuers.push(Issuer {
         iss: Text::of(alloc, "https://idp.example")?,
         keys: Items::of(keys),
+        public_keys: Items::of(Vec::new(alloc)),
     })?;
     Ok(RxRules {
         trust: Trust {

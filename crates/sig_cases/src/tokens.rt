@@ -58,6 +58,7 @@ fn issuer(alloc: Global, value: &Value) -> Result<Option<Issuer>, Memory> {
     Ok(Some(Issuer {
         iss: Text::of(alloc, iss)?,
         keys,
+        public_keys: Items::of(Vec::new(alloc)),
     }))
 }
 

@@ -37,6 +37,7 @@ fn issuer(alloc: Global, iss: &str) -> Result<Issuer, Memory> {
     Ok(Issuer {
         iss: Text::of(alloc, iss)?,
         keys: Items::of(keys),
+        public_keys: Items::of(Vec::new(alloc)),
     })
 }
 

@@ -1,14 +1,15 @@
 -- What `fold` prints: a verdict for each line of the input, and then the session table.
 use Rattle.std.specs.Prelude.{ℕ, List, [], ◌∷◌, ◌++◌, ◌+◌, Some, None, length}
+use Rattle.sig_set.specs.declared.trust.Issuer.{Issuer}
 use Rattle.sig_set.specs.declared.trust.Trust.{Trust}
 use Rattle.sig_receiver.specs.Journal.{answer_to, journal_by, distinct}
 use Rattle.sig_receiver.specs.Printed.{answer_text, table_text}
 use Rattle.sig_receiver.specs.Rows.{fold_rows}
 use Rattle.sig_command.specs.Telling.{Telling}
 
--- one issuer with one key, which has no name
-abbrev pub trust_of : List ℕ → List ℕ → List ℕ → Trust
-trust_of iss aud key = record { audience = aud; issuers = record { iss = iss; keys = record { kid = None; bytes = key } ∷ [] } ∷ [] }
+-- one issuer, for this audience
+abbrev pub trust_of : Issuer → List ℕ → Trust
+trust_of issuer aud = record { audience = aud; issuers = issuer ∷ [] }
 
 -- what is printed for a line, over the journal so far; an empty line is passed over
 abbrev pub line_text : Trust → List ℕ → ℕ → List (List ℕ) → List ℕ → List ℕ

@@ -87,6 +87,7 @@ fn issuers(alloc: Global) -> Result<Items<Issuer>, Memory> {
     issuers.push(Issuer {
         iss: Text::of(alloc, ISSUER)?,
         keys: keys(alloc)?,
+        public_keys: Items::of(Vec::new(alloc)),
     })?;
     Ok(Items::of(issuers))
 }

@@ -14,6 +14,7 @@ use Rattle.sig_schedules.proofs.ReplayLemmas.{full-number}
 use Rattle.sig_command.specs.declared.lines_end.LinesEnd.{LinesEnd}
 use Rattle.sig_command.specs.declared.lines_end.LinesEnd.TheVariants.{Done, Stopped, Input, Output, Memory}
 use Rattle.sig_command.specs.declared.stop.Stop.TheVariants as stops
+use Rattle.sig_set.specs.declared.trust.Issuer.{Issuer}
 use Rattle.sig_program.specs.declared.command.Command.{Command}
 use Rattle.sig_program.specs.declared.command.Command.TheVariants.{Fold, Replay}
 use Rattle.sig_program.specs.declared.ending.Ending.{Ending}
@@ -105,9 +106,9 @@ pub spoke-some : (command : Option Command) (c : Command) (told : Option (List �
 spoke-some command c told a b e is h = subst (λ o. IfSome told (λ input. Spoke o input a b (Ran e))) is h
 
 -- the command is `fold`, and it wrote so
-pub fold-wrote : (c : Command) (iss aud key : List ℕ) (told : Option (List ℕ)) (a b : Moment) (e : LinesEnd) → Fold iss aud key ≡ c
-    → IfSome told (λ input. Wrote (telling_of (Fold iss aud key)) input a b e) → IfSome told (λ input. Wrote (telling_of c) input a b e)
-fold-wrote c iss aud key told a b e is h = subst (λ k. IfSome told (λ input. Wrote (telling_of k) input a b e)) is h
+pub fold-wrote : (c : Command) (issuer : Issuer) (aud : List ℕ) (told : Option (List ℕ)) (a b : Moment) (e : LinesEnd) → Fold issuer aud ≡ c
+    → IfSome told (λ input. Wrote (telling_of (Fold issuer aud)) input a b e) → IfSome told (λ input. Wrote (telling_of c) input a b e)
+fold-wrote c issuer aud told a b e is h = subst (λ k. IfSome told (λ input. Wrote (telling_of k) input a b e)) is h
 
 -- what the command `replay` wrote
 pub replay-wrote : (c : Command) (told : Option (List ℕ)) (a b : Moment) (e : LinesEnd) → Replay ≡ c

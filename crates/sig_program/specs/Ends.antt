@@ -17,7 +17,7 @@ use Rattle.sig_fold.specs.Fold.{fold_telling, trust_of}
 
 -- what a command does with the lines of its input
 abbrev pub telling_of : Command → Telling
-telling_of (Fold iss aud key) = fold_telling (trust_of iss aud key) iss
+telling_of (Fold issuer aud) = fold_telling (trust_of issuer aud) issuer.iss
 telling_of Replay = replay_telling
 
 -- the status of an ending

@@ -1,8 +1,11 @@
-ghost use Rattle.std.specs.Prelude.{◌≡◌, ◌∷◌, IfOk, map, string_bytes};
+ghost use Rattle.std.specs.Prelude.{◌≡◌, ◌∷◌, IfOk, map, option_map, string_bytes};
+ghost use Rattle.sig_jws.specs.Key.{key_word_of};
 ghost use Rattle.sig_program.specs.Command as spec;
 
-use sig_json::{Bytes, Memory, Text};
-use sig_jws::key_of;
+use sig_json::{Bytes, Items, Memory, Text};
+use sig_jws::{Key, key_of};
+use sig_rs256::RsaKey;
+use sig_set::{Issuer, rsa_key_of};
 use std::alloc::Global;
 
 /// What the words of the command line ask for. It holds a key, and so has no `Debug` that would print it.
@@ -10,12 +13,10 @@ use std::alloc::Global;
 pub enum Command {
     /// Judges each line of the input as a token, and prints the verdicts and then the session table.
     Fold {
-        /// The issuer whose tokens are taken, who is the principal too.
-        iss: Text,
+        /// The issuer whose tokens are taken, who is the principal too, with the one key that they have to be signed with.
+        issuer: Issuer,
         /// The audience that the tokens have to have.
         aud: Text,
-        /// The key that they have to be signed under.
-        key: Bytes,
     },
     /// Runs the script that the input is: a transmitter and a receiver side by side.
     Replay,
@@ -72,12 +73,79 @@ fn fold_of(alloc: Global, iss: &str, aud: &str, key: &str) -> Result<Option<Comm
     if iss.is_empty() || aud.is_empty() {
         return Ok(None);
     }
-    match key_of(alloc, key)? {
+    match issuer_of(alloc, iss, key)? {
         None => Ok(None),
-        Some(key) => Ok(Some(Command::Fold {
-            iss: Text::of(alloc, iss)?,
+        Some(issuer) => Ok(Some(Command::Fold {
+            issuer,
             aud: Text::of(alloc, aud)?,
-            key,
         })),
     }
+}
+
+// The issuer with the key that the word spells: `rs256:<n>:<e>` a public key, a word without a colon a secret.
+fn issuer_of(alloc: Global, iss: &str, key: &str) -> Result<Option<Issuer>, Memory>
+    ensures { IfOk result (λ issuer. issuer ≡ spec.issuer_of iss.now key.now) }
+{
+    match cut_at_colon(key) {
+        None => secret_issuer(alloc, iss, key),
+        Some((name, words)) => {
+            if name != "rs256" {
+                return Ok(None);
+            }
+            public_key_issuer(alloc, iss, words)
+        }
+    }
+}
+
+fn secret_issuer(alloc: Global, iss: &str, key: &str) -> Result<Option<Issuer>, Memory>
+    ensures { IfOk result (λ issuer. issuer ≡ option_map (spec.with_secret iss.now) (key_word_of key.now)) }
+{
+    match key_of(alloc, key)? {
+        None => Ok(None),
+        Some(bytes) => Ok(Some(with_secret(alloc, iss, bytes)?)),
+    }
+}
+
+fn public_key_issuer(alloc: Global, iss: &str, words: &str) -> Result<Option<Issuer>, Memory>
+    ensures { IfOk result (λ issuer. issuer ≡ spec.public_key_issuer iss.now (spec.cut_at_colon words.now)) }
+{
+    let Some((n, e)) = cut_at_colon(words) else {
+        return Ok(None);
+    };
+    match rsa_key_of(alloc, None, n, e)? {
+        None => Ok(None),
+        Some(key) => Ok(Some(with_public_key(alloc, iss, key)?)),
+    }
+}
+
+// What stands before the first colon, and what stands after it.
+#[tactic(auto, using(std::proofs::lemmas::Str::Pattern::split_once_first))]
+fn cut_at_colon(text: &str) -> Option<(&str, &str)>
+    ensures { option_map (λ cut. (cut.0.now, cut.1.now)) result ≡ spec.cut_at_colon text.now }
+{
+    text.split_once(':')
+}
+
+fn with_secret(alloc: Global, iss: &str, bytes: Bytes) -> Result<Issuer, Memory>
+    ensures { IfOk result (λ issuer. issuer ≡ spec.with_secret iss.now bytes) }
+{
+    let mut keys = Vec::new(alloc);
+    keys.push(Key { kid: None, bytes })?;
+    Ok(Issuer {
+        iss: Text::of(alloc, iss)?,
+        keys: Items::of(keys),
+        public_keys: Items::of(Vec::new(alloc)),
+    })
+}
+
+fn with_public_key(alloc: Global, iss: &str, key: RsaKey) -> Result<Issuer, Memory>
+    ensures { IfOk result (λ issuer. issuer ≡ spec.with_public_key iss.now key) }
+{
+    let mut public_keys = Vec::new(alloc);
+    public_keys.push(key)?;
+    Ok(Issuer {
+        iss: Text::of(alloc, iss)?,
+        keys: Items::of(Vec::new(alloc)),
+        public_keys: Items::of(public_keys),
+    })
 }

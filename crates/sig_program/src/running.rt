@@ -12,14 +12,14 @@ ghost use Rattle.sig_program.specs.Command as spec;
 ghost use Rattle.sig_program.specs.declared.command.Command.{Command};
 ghost use Rattle.sig_program.specs.Ends.{Cause, Finished, RanWith, Spoke, ending_at, status_of, telling_of};
 ghost use Rattle.sig_fold.specs.Fold.{trust_of};
+ghost use Rattle.sig_set.specs.declared.trust.Issuer.{Issuer};
 
 use crate::command::{Command, command_of};
 use crate::ending::Ending;
 use crate::finishing::{finish, status};
 use sig_command::{LinesEnd, tell_all};
 use sig_fold::Folder;
-use sig_json::{Bytes, Items, Memory, Text};
-use sig_jws::Key;
+use sig_json::{Items, Memory, Text};
 use sig_outside::{Sink, Source};
 use sig_set::{Issuer, PreparedTrust, Trust};
 use sig_world::replay;
@@ -88,7 +88,7 @@ pub fn run<I: Source, O: Sink>(alloc: Global, words: &[String], input: &mut I, o
         → (result ≡ status_of (ending_at ((telling_of command).stop (lines told)))) ⊎ (result ≡ 9) }
 
     // No line stops `fold`: so it ends with its whole text, or out of memory.
-    ensures fold { (iss aud key told : List ℕ) → spec.command_of (map (λ word. string_bytes word) words.now) ≡ Some (Command.Fold iss aud key)
+    ensures fold { (issuer : Issuer) (aud told : List ℕ) → spec.command_of (map (λ word. string_bytes word) words.now) ≡ Some (Command.Fold issuer aud)
         → I.left input.old ≡ Some told → length told < LAST_NUMBER
         → (Rose (I.faults input.old) (I.faults input.new) → ⊥) → (Rose (O.faults output.old) (O.faults output.new) → ⊥)
         → (Rose (O.stalls output.old) (O.stalls output.new) → ⊥) → (result ≡ 0) ⊎ (result ≡ 9) }
@@ -140,45 +140,39 @@ fn run_command<I: Source, O: Sink>(
         (moment (I.left input.new) (I.faults input.new) (O.written output.new) (O.faults output.new) (O.stalls output.new)) result) }
 {
     match command {
-        Command::Fold { iss, aud, key } => run_fold(alloc, iss, aud, key, input, output),
+        Command::Fold { issuer, aud } => run_fold(alloc, issuer, aud, input, output),
         Command::Replay => replay(alloc, input, output),
     }
 }
 
 fn run_fold<I: Source, O: Sink>(
     alloc: Global,
-    iss: Text,
+    issuer: Issuer,
     aud: Text,
-    key: Bytes,
     input: &mut I,
     output: &mut O,
 ) -> LinesEnd
-    ensures cause { WhyEnded (telling_of (Command.Fold iss aud key)) (moment (I.left input.old) (I.faults input.old) (O.written output.old) (O.faults output.old) (O.stalls output.old))
+    ensures cause { WhyEnded (telling_of (Command.Fold issuer aud)) (moment (I.left input.old) (I.faults input.old) (O.written output.old) (O.faults output.old) (O.stalls output.old))
         (moment (I.left input.new) (I.faults input.new) (O.written output.new) (O.faults output.new) (O.stalls output.new)) result }
-    ensures text { IfSome (I.left input.old) (λ told. Wrote (telling_of (Command.Fold iss aud key)) told (moment (I.left input.old) (I.faults input.old) (O.written output.old) (O.faults output.old) (O.stalls output.old))
+    ensures text { IfSome (I.left input.old) (λ told. Wrote (telling_of (Command.Fold issuer aud)) told (moment (I.left input.old) (I.faults input.old) (O.written output.old) (O.faults output.old) (O.stalls output.old))
         (moment (I.left input.new) (I.faults input.new) (O.written output.new) (O.faults output.new) (O.stalls output.new)) result) }
 {
-    let Ok(trust) = trust_from(alloc, &iss, aud, key) else {
+    let Ok(name) = issuer.iss.copy(alloc) else {
         return LinesEnd::Memory;
     };
-    let mut folder = Folder::new(alloc, trust, iss);
+    let Ok(trust) = trust_from(alloc, issuer, aud) else {
+        return LinesEnd::Memory;
+    };
+    let mut folder = Folder::new(alloc, trust, name);
     tell_all(alloc, &mut folder, input, output)
 }
 
-// One issuer with one key, which has no name, prepared for all tokens of the run.
-fn trust_from(alloc: Global, iss: &Text, aud: Text, key: Bytes) -> Result<PreparedTrust, Memory>
-    ensures { IfOk result (λ trust. trust ≡ trust_of iss.now aud key) }
+// The trust in one issuer, prepared for all tokens of the run.
+fn trust_from(alloc: Global, issuer: Issuer, aud: Text) -> Result<PreparedTrust, Memory>
+    ensures { IfOk result (λ trust. trust ≡ trust_of issuer aud) }
 {
-    let mut keys = Vec::new(alloc);
-    keys.push(Key {
-        kid: None,
-        bytes: key,
-    })?;
     let mut issuers = Vec::new(alloc);
-    issuers.push(Issuer {
-        iss: iss.copy(alloc)?,
-        keys: Items::of(keys),
-    })?;
+    issuers.push(issuer)?;
     let trust = Trust {
         audience: aud,
         issuers: Items::of(issuers),

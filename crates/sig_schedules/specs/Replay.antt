@@ -74,7 +74,7 @@ replay_rules = record {
 abbrev pub replay_trust : Trust
 replay_trust = record {
   audience = codes "https://rp.example";
-  issuers = record { iss = codes "https://idp.example"; keys = replay_key ∷ [] } ∷ [];
+  issuers = record { iss = codes "https://idp.example"; keys = replay_key ∷ []; public_keys = [] } ∷ [];
 }
 
 -- the transmitter's store: 6ba7b810-9dad-11d1-80b4-00c04fd430c8

@@ -6,6 +6,7 @@ ghost use Rattle.sig_json.specs.declared.limits.TheConstants.{LAST_NUMBER};
 ghost use Rattle.sig_outside.specs.Causes.{Rose};
 ghost use Rattle.sig_command.specs.Moment.{moment, output_state};
 ghost use Rattle.sig_init.specs.Files.{file_a, file_b};
+ghost use Rattle.sig_set.specs.declared.trust.Issuer.{Issuer};
 ghost use Rattle.sig_program.specs.Command.{command_of};
 ghost use Rattle.sig_program.specs.declared.command.Command.{Command};
 ghost use Rattle.sig_program.specs.Ends.{RanWith, ending_at, status_of, telling_of};
@@ -92,7 +93,7 @@ pub fn run<R: Threads + Wait + Sync, X: Outside, I: Source, O: Sink>(
         → (Rose (I.faults input.old) (I.faults input.new) → ⊥) → (Rose (O.faults output.old) (O.faults output.new) → ⊥)
         → (Rose (O.stalls output.old) (O.stalls output.new) → ⊥)
         → (result ≡ status_of (ending_at ((telling_of command).stop (lines told)))) ⊎ (result ≡ 9) }
-    ensures fold { (iss aud key told : List ℕ) → command_of (map (λ word. string_bytes word) words.now) ≡ Some (Command.Fold iss aud key)
+    ensures fold { (issuer : Issuer) (aud told : List ℕ) → command_of (map (λ word. string_bytes word) words.now) ≡ Some (Command.Fold issuer aud)
         → I.left input.old ≡ Some told → length told < LAST_NUMBER
         → (Rose (I.faults input.old) (I.faults input.new) → ⊥) → (Rose (O.faults output.old) (O.faults output.new) → ⊥)
         → (Rose (O.stalls output.old) (O.stalls output.new) → ⊥) → (result ≡ 0) ⊎ (result ≡ 9) }
@@ -167,7 +168,7 @@ pub fn run_plain<X: Outside, I: Source, O: Sink>(
         → (result ≡ status_of (ending_at ((telling_of command).stop (lines told)))) ⊎ (result ≡ 9) }
 
     // No line stops `fold`: so it ends with its whole text, or out of memory.
-    ensures fold { (iss aud key told : List ℕ) → command_of (map (λ word. string_bytes word) words.now) ≡ Some (Command.Fold iss aud key)
+    ensures fold { (issuer : Issuer) (aud told : List ℕ) → command_of (map (λ word. string_bytes word) words.now) ≡ Some (Command.Fold issuer aud)
         → I.left input.old ≡ Some told → length told < LAST_NUMBER
         → (Rose (I.faults input.old) (I.faults input.new) → ⊥) → (Rose (O.faults output.old) (O.faults output.new) → ⊥)
         → (Rose (O.stalls output.old) (O.stalls output.new) → ⊥) → (result ≡ 0) ⊎ (result ≡ 9) }

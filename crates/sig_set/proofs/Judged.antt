@@ -1,11 +1,10 @@
 -- The parts of the judgement, and of the reading without one, in their order.
-use Rattle.std.proofs.Common.{◌≡◌, ℕ, List, ◌∷◌, ◌++◌, true, false, Option, Some, None, refl, sym, subst, ap, ◌∙◌, inl, inr}
+use Rattle.std.proofs.Common.{◌≡◌, ℕ, List, [], ◌∷◌, ◌++◌, true, false, Option, Some, None, option_map, unwrap_or, refl, sym, subst, ap, ◌∙◌, inl, inr}
 use Rattle.std.specs.Prelude.{Result, Ok, Err, is_some}
 use Rattle.serde_json.specs.Data.{Data}
 use Rattle.sig_json.specs.Answers.{Answers}
 use Rattle.sig_json.specs.Checks.{Check, first_failing}
 use Rattle.sig_jws.specs.declared.compact.Compact.{Compact}
-use Rattle.sig_jws.specs.declared.key.Key.{Key}
 use Rattle.sig_event.specs.declared.claims.Claims.{Claims}
 use Rattle.sig_set.specs.declared.reading.ClaimsFault.TheVariants as fault
 use Rattle.sig_set.specs.declared.refusal.Code.{Code}
@@ -18,7 +17,7 @@ use Rattle.sig_set.specs.declared.trust.Issuer.{Issuer}
 use Rattle.sig_set.specs.declared.trust.Trust.{Trust}
 use Rattle.sig_set.specs.Checks.{Fault, passed, refused_unless, unless_refused}
 use Rattle.sig_set.specs.Claims.{audience_in, claims_in, content_checks}
-use Rattle.sig_set.specs.Judgement.{audience_checks, bearer_checks, issuer_checks, judged_by, key_checks, keys_in, result_of, trust_checks}
+use Rattle.sig_set.specs.Judgement.{audience_checks, bearer_checks, issuer_checks, issuer_in, judged_by, key_checks, keys_in, public_keys_in, result_of, trust_checks}
 use Rattle.sig_set.specs.Reading.{read_by}
 use Rattle.sig_set.proofs.Chains.{behind_part, one_failed, one_held, part_refused, rest_left}
 
@@ -67,17 +66,25 @@ trusted trust principal named token header payload t h p r is heads pays told co
     (ap passed (trust_alike trust principal token header payload t h p is heads pays) ∙ sym told)
     (subst (λ (x : Option Data). Answers Memory r (unless_refused (first_failing (content_checks named x)) (claims_in x))) (sym pays) content)
 
+-- the checks of keys by the issuer that is there
+keys_alike : (issuers : List Issuer) (issuer : Issuer) (token : Option Compact) (header payload : Option Data) → issuer_in issuers payload ≡ Some issuer
+    → key_checks token header (keys_in issuers payload) (public_keys_in issuers payload) ≡ key_checks token header issuer.keys issuer.public_keys
+keys_alike issuers issuer token header payload is =
+    ap (λ o. key_checks token header (unwrap_or (option_map (λ (i : Issuer). i.keys) o) []) (unwrap_or (option_map (λ (i : Issuer). i.public_keys) o) [])) is
+
 -- a key that didn't sign it
-pub verify_refused : (issuers given : List Issuer) (keys : List Key) (principal : Option (List ℕ)) (audience : List ℕ) (t : Compact) (h p : Data) (e : Refusal) (r : Result (Unit {0}) Refusal)
-    → given ≡ issuers → keys ≡ keys_in given (Some p) → Ok tt ≡ passed (issuer_checks given principal (Some p)) → r ≡ Err e → Err e ≡ passed (key_checks (Some t) (Some h) keys)
-    → r ≡ passed (issuer_checks issuers principal (Some p) ++ (key_checks (Some t) (Some h) (keys_in issuers (Some p)) ++ audience_checks audience (Some p)))
-verify_refused issuers given keys principal audience t h p e r same are before told refused =
-    let issuer = issuer_checks issuers principal (Some p) in
-    let key = key_checks (Some t) (Some h) (keys_in issuers (Some p)) in
+pub verify_refused : (issuers given : List Issuer) (issuer : Issuer) (principal : Option (List ℕ)) (audience : List ℕ) (t : Compact) (h p : Data) (e : Refusal) (r : Result (Unit {0}) Refusal)
+    → given ≡ issuers → issuer_in given (Some p) ≡ Some issuer → Ok tt ≡ passed (issuer_checks given principal (Some p)) → r ≡ Err e
+    → Err e ≡ passed (key_checks (Some t) (Some h) issuer.keys issuer.public_keys)
+    → r ≡ passed (issuer_checks issuers principal (Some p) ++ (key_checks (Some t) (Some h) (keys_in issuers (Some p)) (public_keys_in issuers (Some p)) ++ audience_checks audience (Some p)))
+verify_refused issuers given issuer principal audience t h p e r same there before told refused =
+    let first = issuer_checks issuers principal (Some p) in
+    let key = key_checks (Some t) (Some h) (keys_in issuers (Some p)) (public_keys_in issuers (Some p)) in
     let behind = audience_checks audience (Some p) in
-    let checked : Ok tt ≡ passed issuer = before ∙ ap (λ g. passed (issuer_checks g principal (Some p))) same in
-    let all : Err e ≡ passed key = refused ∙ ap (λ ks. passed (key_checks (Some t) (Some h) ks)) (are ∙ ap (λ g. keys_in g (Some p)) same) in
-    told ∙ sym (rest_left issuer (key ++ behind) tt tt tt (sym checked) ∙ part_refused key behind tt tt e (sym all))
+    let checked : Ok tt ≡ passed first = before ∙ ap (λ g. passed (issuer_checks g principal (Some p))) same in
+    let known : issuer_in issuers (Some p) ≡ Some issuer = sym (ap (λ g. issuer_in g (Some p)) same) ∙ there in
+    let all : Err e ≡ passed key = refused ∙ sym (ap passed (keys_alike issuers issuer (Some t) (Some h) (Some p) known)) in
+    told ∙ sym (rest_left first (key ++ behind) tt tt tt (sym checked) ∙ part_refused key behind tt tt e (sym all))
 
 -- ---- the judgement
 

@@ -20,14 +20,15 @@ use Rattle.sig_jws.specs.Hmac.{hmac_of}
 use Rattle.sig_jws.specs.declared.compact.Compact.{Compact}
 use Rattle.sig_jws.specs.declared.key.Key.{Key}
 use Rattle.sig_jws.proofs.SignedLemmas.{gives_back}
+use Rattle.sig_rs256.specs.Keys.{PublicKey}
 use Rattle.sig_subject.proofs.Passing.{Passes, passes_append}
 use Rattle.sig_event.specs.declared.claims.Claims.{Claims}
 use Rattle.sig_set.specs.declared.trust.Issuer.{Issuer}
 use Rattle.sig_set.specs.declared.trust.Trust.{Trust}
 use Rattle.sig_set.specs.declared.writing.WriteFault.TheVariants.{TooLong}
 use Rattle.sig_set.specs.Claims.{ClaimsAre, claims_in, content_checks}
-use Rattle.sig_set.specs.Header.{has_candidate, is_candidate, is_signed, is_verified, kid_in}
-use Rattle.sig_set.specs.Judgement.{Valid, audience_checks, bearer_checks, checks, claims_of, form_checks, header_in, issuer_checks, issuer_in, issuer_named, judged, judged_by, key_checks, keys_in, payload_in, token_in, trust_checks}
+use Rattle.sig_set.specs.Header.{has_candidate, has_mac, is_candidate, is_verified, kid_in, secret_name}
+use Rattle.sig_set.specs.Judgement.{Valid, audience_checks, bearer_checks, checks, claims_of, form_checks, header_in, issuer_checks, issuer_in, issuer_named, judged, judged_by, key_checks, keys_in, payload_in, public_keys_in, token_in, trust_checks}
 use Rattle.sig_set.specs.Laws.{AreJudgedValid, IsNameOr, IsTrusted}
 use Rattle.sig_set.specs.Tests.{is_filled_and_wanted}
 use Rattle.sig_set.specs.Written.{IsProperClaims, header_of, header_text_of, payload_text_of, token_text}
@@ -110,18 +111,19 @@ keys_there trust claims key v says t = ap (λ o. unwrap_or (option_map (λ (i : 
 issuer_passes : (trust : Trust) (claims : Claims) (key : Key) (v : Data) → ClaimsAre claims v → IsTrusted trust claims key → Passes (issuer_checks trust.issuers (Some claims.iss) (Some v))
 issuer_passes trust claims key v says t = rw (issuer_there trust claims key v says t, says.iss, bytes_same claims.iss) refl
 
-fits_kid : (key : Key) (kid : Option (List ℕ)) → key.kid ≡ kid → is_candidate (kid_in (Some (header_of kid))) key ≡ true
+fits_kid : (key : Key) (kid : Option (List ℕ)) → key.kid ≡ kid → is_candidate (kid_in (Some (header_of kid))) key.kid ≡ true
 fits_kid key None is = refl
 fits_kid key (Some kid) is = rw is (bytes_same kid)
 
-key_passes : (claims : Claims) (key : Key) (keys : List Key) → Contains keys key → Passes (key_checks (Some (held claims key)) (Some (header_of key.kid)) keys)
-key_passes claims key keys among =
+key_passes : (claims : Claims) (key : Key) (keys : List Key) (public_keys : List PublicKey) → Contains keys key
+    → Passes (key_checks (Some (held claims key)) (Some (header_of key.kid)) keys public_keys)
+key_passes claims key keys public_keys among =
     let kid = kid_in (Some (header_of key.kid)) in
     let fits = fits_kid key key.kid refl in
-    let candidate : has_candidate kid keys ≡ true = finds (is_candidate kid) keys key among fits in
-    let signs : is_candidate kid key && is_signed (Some (held claims key)) key ≡ true = rw fits (bytes_same (held claims key).mac) in
-    let verified : is_verified (Some (held claims key)) kid keys ≡ true =
-    finds (λ (k : Key). is_candidate kid k && is_signed (Some (held claims key)) k) keys key among signs in
+    let signs : is_candidate kid key.kid && has_mac (Some (held claims key)) key ≡ true = rw fits (bytes_same (held claims key).mac) in
+    let candidate : has_candidate secret_name kid keys ≡ true = finds (λ (k : Key). is_candidate kid k.kid) keys key among fits in
+    let verified : is_verified secret_name (has_mac (Some (held claims key))) kid keys ≡ true =
+    finds (λ (k : Key). is_candidate kid k.kid && has_mac (Some (held claims key)) k) keys key among signs in
     rw (candidate, verified) refl
 
 audience_passes : (trust : Trust) (claims : Claims) (key : Key) (v : Data) → ClaimsAre claims v → IsTrusted trust claims key → Passes (audience_checks trust.audience (Some v))
@@ -151,11 +153,12 @@ trust_passes : (trust : Trust) (claims : Claims) (key : Key) (v : Data) → Clai
     → Passes (trust_checks trust (Some claims.iss) (Some (held claims key)) (Some (header_of key.kid)) (Some v))
 trust_passes trust claims key v says t =
     let keys = keys_in trust.issuers (Some v) in
+    let public_keys = public_keys_in trust.issuers (Some v) in
     let among : Contains keys key = subst (λ (ks : List Key). Contains ks key) (sym (keys_there trust claims key v says t)) t.keys in
-    let signs = key_checks (Some (held claims key)) (Some (header_of key.kid)) keys in
+    let signs = key_checks (Some (held claims key)) (Some (header_of key.kid)) keys public_keys in
     let aims = audience_checks trust.audience (Some v) in
     passes_append (issuer_checks trust.issuers (Some claims.iss) (Some v)) (signs ++ aims) (issuer_passes trust claims key v says t)
-    (passes_append signs aims (key_passes claims key keys among) (audience_passes trust claims key v says t))
+    (passes_append signs aims (key_passes claims key keys public_keys among) (audience_passes trust claims key v says t))
 
 -- ---- the judgement of a text with these parts
 

@@ -12,7 +12,7 @@ use Rattle.sig_set.specs.declared.refusal.Spot.TheVariants as spot
 use Rattle.sig_set.specs.declared.trust.Trust.{Trust}
 use Rattle.sig_set.specs.Checks.{Fault, refused_unless}
 use Rattle.sig_set.specs.Claims.{audience_in, content_checks, text_in}
-use Rattle.sig_set.specs.Judgement.{Valid, audience_checks, bearer_checks, checks, claims_of, form_checks, header_in, issuer_checks, judged_by, key_checks, keys_in, payload_in, token_in, trust_checks}
+use Rattle.sig_set.specs.Judgement.{Valid, audience_checks, bearer_checks, checks, claims_of, form_checks, header_in, issuer_checks, judged_by, key_checks, keys_in, payload_in, public_keys_in, token_in, trust_checks}
 use Rattle.sig_set.specs.Laws.{AreRead}
 use Rattle.sig_set.specs.Reading.{read_by, reading_checks}
 use Rattle.sig_set.specs.Tests.{is_filled, is_filled_and_wanted, is_text, where_there}
@@ -49,8 +49,9 @@ nameless named v h =
 
 aimed : (trust : Trust) (principal : Option (List ℕ)) (token : Option Compact) (header v : Option Data) → Passes (trust_checks trust principal token header v) → is_some (audience_in v) ≡ true
 aimed trust principal token header v h =
-    let behind = passes_back (issuer_checks trust.issuers principal v) (key_checks token header (keys_in trust.issuers v) ++ audience_checks trust.audience v) h in
-    let last = passes_back (key_checks token header (keys_in trust.issuers v)) (audience_checks trust.audience v) behind in
+    let keys = key_checks token header (keys_in trust.issuers v) (public_keys_in trust.issuers v) in
+    let behind = passes_back (issuer_checks trust.issuers principal v) (keys ++ audience_checks trust.audience v) h in
+    let last = passes_back keys (audience_checks trust.audience v) behind in
     there (list_any (bytes_eq trust.audience)) (audience_in v) (all_hold (audience_checks trust.audience v) last).0
 
 reads : (trust : Trust) (principal named : Option (List ℕ)) (text : List ℕ) → Passes (checks trust principal named text) → Passes (reading_checks text)

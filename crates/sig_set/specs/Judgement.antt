@@ -5,12 +5,13 @@ use Rattle.std.specs.Result.{result_ok}
 use Rattle.std.specs.List.{list_any}
 use Rattle.serde_json.specs.Data.{Data}
 use Rattle.sig_json.specs.Checks.{Check, first_failing}
-use Rattle.sig_json.specs.Json.{json_of, member_of, text_member}
+use Rattle.sig_json.specs.Json.{json_of, member_of}
 use Rattle.sig_json.specs.Members.{is_object}
 use Rattle.sig_json.specs.declared.limits.TheConstants.{TOKEN_BYTES}
 use Rattle.sig_jws.specs.Compact.{split_of}
 use Rattle.sig_jws.specs.declared.compact.Compact.{Compact}
 use Rattle.sig_jws.specs.declared.key.Key.{Key}
+use Rattle.sig_rs256.specs.Keys.{PublicKey}
 use Rattle.sig_event.specs.declared.claims.Claims.{Claims}
 use Rattle.sig_set.specs.declared.trust.Issuer.{Issuer}
 use Rattle.sig_set.specs.declared.trust.Trust.{Trust}
@@ -22,7 +23,7 @@ use Rattle.sig_set.specs.declared.refusal.Refusal.{Refusal}
 use Rattle.sig_set.specs.declared.refusal.Refusal.TheVariants.{Coded}
 use Rattle.sig_set.specs.Checks.{Fault, refused_unless}
 use Rattle.sig_set.specs.Claims.{audience_in, claims_in, content_checks, text_in}
-use Rattle.sig_set.specs.Header.{has_candidate, is_verified, kid_in, has_token_type}
+use Rattle.sig_set.specs.Header.{algorithm_in, has_token_type, is_signed, kid_in, may_be_signed}
 use Rattle.sig_set.specs.Tests.{is_text, where_there}
 
 -- a token is valid with these claims, or refused
@@ -53,8 +54,13 @@ issuer_named iss issuers = find (λ (issuer : Issuer). bytes_eq issuer.iss iss) 
 abbrev pub issuer_in : List Issuer → Option Data → Option Issuer
 issuer_in issuers payload = option_and_then (λ iss. issuer_named iss issuers) (text_in (codes "iss") payload)
 
+-- its secrets, none where it isn't there
 abbrev pub keys_in : List Issuer → Option Data → List Key
 keys_in issuers payload = unwrap_or (option_map (λ (i : Issuer). i.keys) (issuer_in issuers payload)) []
+
+-- its public keys, none where it isn't there
+abbrev pub public_keys_in : List Issuer → Option Data → List PublicKey
+public_keys_in issuers payload = unwrap_or (option_map (λ (i : Issuer). i.public_keys) (issuer_in issuers payload)) []
 
 -- the principal is this issuer
 abbrev pub speaks_for : Option (List ℕ) → Option (List ℕ) → Bool
@@ -101,12 +107,13 @@ issuer_checks issuers principal payload =
     ∷ refused_unless AccessDenied spot.Iss (speaks_for principal (text_in (codes "iss") payload))
     ∷ []
 
--- the key: HS256 (RFC 7518, section 3.2), a key that may have signed it, and one of those that did
-abbrev pub key_checks : Option Compact → Option Data → List Key → List (Check Fault)
-key_checks token header keys =
-    refused_unless InvalidKey spot.Alg (is_text (codes "HS256") (option_and_then (text_member (codes "alg")) header))
-    ∷ refused_unless InvalidKey spot.Kid (has_candidate (kid_in header) keys)
-    ∷ refused_unless InvalidKey spot.Mac (is_verified token (kid_in header) keys)
+-- the key: an algorithm that is known (RFC 7518, sections 3.2 and 3.3), a key of its list that may have signed it, and one of
+-- those that did
+abbrev pub key_checks : Option Compact → Option Data → List Key → List PublicKey → List (Check Fault)
+key_checks token header secrets public_keys =
+    refused_unless InvalidKey spot.Alg (is_some (algorithm_in header))
+    ∷ refused_unless InvalidKey spot.Kid (may_be_signed (algorithm_in header) (kid_in header) secrets public_keys)
+    ∷ refused_unless InvalidKey spot.Mac (is_signed (algorithm_in header) token (kid_in header) secrets public_keys)
     ∷ []
 
 -- the audience is the receiver, or a list of texts that holds it
@@ -118,7 +125,8 @@ audience_checks audience payload =
 abbrev pub trust_checks : Trust → Option (List ℕ) → Option Compact → Option Data → Option Data → List (Check Fault)
 trust_checks trust principal token header payload =
     issuer_checks trust.issuers principal payload
-    ++ (key_checks token header (keys_in trust.issuers payload) ++ audience_checks trust.audience payload)
+    ++ (key_checks token header (keys_in trust.issuers payload) (public_keys_in trust.issuers payload)
+    ++ audience_checks trust.audience payload)
 
 -- by trust, principal, the identifier under which a poll listed the token, and its text
 abbrev pub checks : Trust → Option (List ℕ) → Option (List ℕ) → List ℕ → List (Check Fault)

@@ -1,13 +1,17 @@
 -- What holds of tokens that are written, and of tokens that are read.
-use Rattle.std.specs.Prelude.{◌≡◌, ◌<◌, ◌≤◌, ℕ, List, [], ◌∷◌, true, nat_eq, All, Contains, Option, Some, None, IfSome, IsUtf8, codes, length, Ok}
+use Rattle.std.specs.Prelude.{◌≡◌, ◌<◌, ◌≤◌, ◌⊎◌, ℕ, List, [], ◌∷◌, ◌++◌, true, nat_eq, All, Contains, Option, Some, None, IfSome, IsUtf8, codes, length, Ok}
 use Rattle.std.specs.List.{list_all, list_any}
 use Rattle.base64.specs.GeneralPurpose.{IsBytes}
 use Rattle.serde_json.specs.Data.{Data, depth}
 use Rattle.serde_json.specs.Read.{max_depth}
 use Rattle.sig_json.specs.declared.limits.TheConstants.{KEY_NAME_BYTES, LAST_NUMBER, PAYLOAD_BYTES, TOKEN_BYTES}
 use Rattle.sig_json.specs.Json.{json_of, member_of, text_member}
-use Rattle.sig_jws.specs.Compact.{signed}
+use Rattle.sig_jws.specs.Compact.{base64url, dot, input_of, signed, split_of}
+use Rattle.sig_jws.specs.Hmac.{hmac_of}
+use Rattle.sig_jws.specs.declared.compact.Compact.{Compact}
 use Rattle.sig_jws.specs.declared.key.Key.{Key}
+use Rattle.sig_rs256.specs.Keys.{PublicKey}
+use Rattle.sig_rs256.specs.Signatures.{IsSignature}
 use Rattle.sig_subject.specs.Written.{IsProperSubject}
 use Rattle.sig_event.specs.Events.{IsProperEvent, uri_of}
 use Rattle.sig_event.specs.declared.claims.Claims.{Claims}
@@ -49,24 +53,50 @@ pub record IsTrusted (trust : Trust) (claims : Claims) (key : Key) : Type 0 wher
 abbrev pub IsNameOr : Option (List ℕ) → List ℕ → Type 0
 IsNameOr named jti = (name : List ℕ) → named ≡ Some name → name ≡ jti
 
--- a token is valid with these claims: its text is the signing of a header and a payload under a key that may have signed
--- it, of the first issuer named as the claims' issuer, who is the principal; the claims are for the receiver; they are
--- what the payload says; and the token goes under their identifier or no name (RFC 8417, section 2; RFC 7515, section 5.2)
+-- the header's `alg` is this text (RFC 7515, section 4.1.1)
+abbrev pub SaysAlgorithm : Data → List ℕ → Type 0
+SaysAlgorithm head name = text_member (codes "alg") head ≡ Some name
+
+-- by HS256 (RFC 7518, section 3.2): the text is the signing of header and payload under a secret of the issuer that the
+-- header allows
+pub record IsUnderSecret (issuer : Issuer) (head : Data) (header payload text : List ℕ) : Type 0 where
+  pub algorithm : SaysAlgorithm head (codes "HS256")
+  pub key : Key
+  pub keys : Contains issuer.keys key
+  pub candidate : is_candidate (member_of (codes "kid") head) key.kid ≡ true
+  pub signing : text ≡ signed header payload key.bytes
+
+-- by RS256 (RFC 7518, section 3.3): the text is the compact form of header, payload and a signature of these under a public
+-- key of the issuer that the header allows
+pub record IsUnderPublicKey (issuer : Issuer) (head : Data) (header payload text : List ℕ) : Type 0 where
+  pub algorithm : SaysAlgorithm head (codes "RS256")
+  pub key : PublicKey
+  pub keys : Contains issuer.public_keys key
+  pub candidate : is_candidate (member_of (codes "kid") head) key.kid ≡ true
+  pub signature : List ℕ
+  pub signing : IsSignature key (input_of header payload) signature
+  pub spelled : text ≡ input_of header payload ++ dot ∷ base64url signature
+
+-- who signed the text, by the algorithm that its header says
+pub data SignedBy (issuer : Issuer) (head : Data) (header payload text : List ℕ) : Type 0 where
+  UnderSecret : IsUnderSecret issuer head header payload text → SignedBy issuer head header payload text
+  UnderPublicKey : IsUnderPublicKey issuer head header payload text → SignedBy issuer head header payload text
+
+-- a token is valid with these claims: its text has a header and a payload and was signed, as the header says, by a key that
+-- may have signed it, of the first issuer named as the claims' issuer, who is the principal; the claims are for the
+-- receiver; they are what the payload says; and the token goes under their identifier or no name (RFC 8417, section 2; RFC
+-- 7515, section 5.2)
 pub record IsValid (trust : Trust) (principal named : Option (List ℕ)) (text : List ℕ) (claims : Claims) : Type 0 where
   pub short : length text ≤ TOKEN_BYTES
   pub header : List ℕ
   pub payload : List ℕ
-  pub key : Key
-  pub signing : text ≡ signed header payload key.bytes
   pub head : Data
   pub header_spells : json_of header ≡ Some head
   pub typed : has_token_type (Some head) ≡ true
-  pub algorithm : text_member (codes "alg") head ≡ Some (codes "HS256")
   pub extended : member_of (codes "crit") head ≡ None
   pub issuer : Issuer
   pub known : issuer_named claims.iss trust.issuers ≡ Some issuer
-  pub keys : Contains issuer.keys key
-  pub candidate : is_candidate (member_of (codes "kid") head) key ≡ true
+  pub signer : SignedBy issuer head header payload text
   pub speaks : principal ≡ Some claims.iss
   pub audience : Contains claims.aud trust.audience
   pub body : Data
@@ -79,6 +109,22 @@ abbrev pub IsValidWhereJudged : Type 0
 IsValidWhereJudged =
     (trust : Trust) (principal named : Option (List ℕ)) (text : List ℕ) (claims : Claims)
     → IsBytes text → judged trust principal named text ≡ Valid claims → IsValid trust principal named text claims
+
+-- by its header's algorithm alone a token was signed with a secret of the issuer, or with a key whose public half the issuer
+-- has; so none by an algorithm for which the issuer has no key (RFC 8725, section 3.1)
+pub record IsUnderItsAlgorithm (issuer : Issuer) (token : Compact) (head : Data) : Type 0 where
+  pub known : SaysAlgorithm head (codes "HS256") ⊎ SaysAlgorithm head (codes "RS256")
+  pub secret : SaysAlgorithm head (codes "HS256") → (key : Key) × Contains issuer.keys key × (token.mac ≡ hmac_of key.bytes token.input)
+  pub public_key : SaysAlgorithm head (codes "RS256") → (key : PublicKey) × Contains issuer.public_keys key × IsSignature key token.input token.mac
+  pub no_secret : issuer.keys ≡ [] → ¬ (SaysAlgorithm head (codes "HS256"))
+  pub no_public_key : issuer.public_keys ≡ [] → ¬ (SaysAlgorithm head (codes "RS256"))
+
+-- each token that is judged valid is so
+abbrev pub AreUnderTheirAlgorithm : Type 0
+AreUnderTheirAlgorithm =
+    (trust : Trust) (principal named : Option (List ℕ)) (text : List ℕ) (claims : Claims) (issuer : Issuer) (token : Compact) (head : Data)
+    → issuer_named claims.iss trust.issuers ≡ Some issuer → split_of text ≡ Ok token → json_of token.header ≡ Some head
+    → judged trust principal named text ≡ Valid claims → IsUnderItsAlgorithm issuer token head
 
 -- what is written of proper claims is valid with these claims, for the issuer and under their identifier or no name
 abbrev pub AreJudgedValid : Type 0

@@ -7,5 +7,6 @@ pub mod Judgement
 pub mod Known
 pub mod Reading
 pub mod Written
+pub mod RsaWords
 pub mod Laws
 pub use Rattle.sig_json.specs.Answers

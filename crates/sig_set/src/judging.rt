@@ -3,7 +3,7 @@ ghost use Rattle.serde_json.specs.View.{view};
 ghost use Rattle.sig_json.specs.Answers.{Answers};
 ghost use Rattle.sig_set.specs.Checks.{outcome, passed};
 ghost use Rattle.sig_set.specs.Claims.{audience_in, text_in};
-ghost use Rattle.sig_set.specs.Judgement.{issuer_checks, issuer_in, issuer_named, judged, keys_in, result_of, speaks_for, trust_checks};
+ghost use Rattle.sig_set.specs.Judgement.{issuer_checks, issuer_in, issuer_named, judged, result_of, speaks_for, trust_checks};
 
 use crate::audience::{audience, has_name};
 use crate::content::content;
@@ -13,7 +13,6 @@ use crate::refusal::refused;
 use crate::values::has_text;
 use crate::{Claims, Code, LastHeader, PreparedIssuer, PreparedTrust, Refusal, Spot, Trust};
 use sig_json::{Items, Text, Value, text_of};
-use sig_jws::PreparedKey;
 use std::alloc::Global;
 
 /// The claims of a token, or the first check that fails (RFC 8417, section 2; RFC 7515, section 5.2; for `exp`, `sub`
@@ -29,9 +28,10 @@ use std::alloc::Global;
 ///    which has no `crit` (`Crit`); the payload is an object (`Payload`) whose `iss` is a text (`Iss`).
 /// 3. `InvalidIssuer`: the issuer is configured (`Iss`); of two with one name the first counts.
 /// 4. `AccessDenied`: it is the principal (`Iss`).
-/// 5. `InvalidKey`: `alg` is `HS256` (`Alg`; RFC 7518, section 3.2); some key of the issuer fits the header's `kid`
-///    (`Kid`); one of these signed it (`Mac`). Without `kid` every key fits. A key without a name fits every `kid` that
-///    is a text, one with a name only that text; a `kid` that is no text fits none.
+/// 5. `InvalidKey`: `alg` is `HS256` or `RS256` (`Alg`; RFC 7518, sections 3.2 and 3.3), for which the issuer has secrets
+///    and public keys; some key for that algorithm fits the header's `kid` (`Kid`); one of these signed it (`Mac`), by its
+///    MAC or its signature. Without `kid` every key fits. A key without a name fits every `kid` that is a text, one with
+///    a name only that text; a `kid` that is no text fits none.
 /// 6. `InvalidAudience`: `aud` is the audience, or a list of texts that holds it (`Aud`).
 /// 7. `InvalidRequest`: `jti` is a text that isn't empty, and the name where one is given (`Jti`); `iat` is a whole number
 ///    from 0 to 2^62 (`Iat`); there is neither `exp` (`Exp`) nor `sub` (`Sub`); `sub_id` is a subject (`SubId`); `events`
@@ -87,22 +87,22 @@ fn check_trust(
     ensures { result ≡ passed
         (trust_checks trust.now (option_copied principal.entry) (Some opened.now.token) (Some (view header.now)) (Some (view opened.now.payload))) }
 {
-    let keys = keys_for(trust.issuers(), principal, &opened.payload)?;
-    verify(&opened.token, header, keys)?;
+    let issuer = issuer_for(trust.issuers(), principal, &opened.payload)?;
+    verify(&opened.token, header, issuer)?;
     if !has_name(audience, trust.audience()) {
         return Err(refused(Code::InvalidAudience, Spot::Aud));
     }
     Ok(())
 }
 
-/// The keys of the payload's issuer, where it is configured and the bearer speaks for it.
-fn keys_for<'a>(
+/// The payload's issuer, where it is configured and the bearer speaks for it.
+fn issuer_for<'a>(
     issuers: &'a [PreparedIssuer],
     principal: Option<&Text>,
     payload: &Value,
-) -> Result<&'a [PreparedKey], Refusal>
+) -> Result<&'a PreparedIssuer, Refusal>
     ensures checks { outcome result ≡ passed (issuer_checks issuers.now (option_copied principal.entry) (Some (view payload.now))) }
-    ensures keys { IfOk result (λ keys. keys.now ≡ keys_in issuers.now (Some (view payload.now))) }
+    ensures issuer { IfOk result (λ issuer. issuer_in issuers.now (Some (view payload.now)) ≡ Some issuer.now) }
 {
     let Some(issuer) = issuer_in(issuers, payload) else {
         return Err(refused(Code::InvalidIssuer, Spot::Iss));
@@ -110,7 +110,7 @@ fn keys_for<'a>(
     if !speaks_for(principal, payload) {
         return Err(refused(Code::AccessDenied, Spot::Iss));
     }
-    Ok(issuer.keys())
+    Ok(issuer)
 }
 
 /// The issuer that the payload names.

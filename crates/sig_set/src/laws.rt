@@ -1,7 +1,7 @@
 //! Laws over the definitions: each function's contract is the law, and nothing calls it.
 
 ghost use Rattle.sig_set.specs.Claims.{ReadsClaims};
-ghost use Rattle.sig_set.specs.Laws.{AreJudgedValid, AreProperByParts, AreRead, AreShortEnough, IsValidWhereJudged};
+ghost use Rattle.sig_set.specs.Laws.{AreJudgedValid, AreProperByParts, AreRead, AreShortEnough, AreUnderTheirAlgorithm, IsValidWhereJudged};
 
 /// A payload says claims exactly where they are read of it.
 pub fn claims_are_read()
@@ -21,12 +21,19 @@ pub fn written_claims_are_judged_valid()
     ensures { AreJudgedValid }
 {}
 
-/// What a valid token is: where a text is judged valid with claims, it is the signing of a header and a payload by a key
-/// that the header allows, one of the first issuer named as the claims' issuer, and that issuer is the principal; the
-/// claims' audience has the trust's own name; the payload says the claims; and the name is absent or the claims'
-/// identifier.
+/// What a valid token is: where a text is judged valid with claims, it has a header and a payload and was signed as the
+/// header says, by HS256 under a secret that the header allows, or by RS256 so that a public key that the header allows
+/// verifies it; the key is one of the first issuer named as the claims' issuer, and that issuer is the principal; the
+/// claims' audience has the trust's own name; the payload says the claims; and the name is absent or the claims' identifier.
 pub fn judged_tokens_are_valid()
     ensures { IsValidWhereJudged }
+{}
+
+/// No key is taken for one of another algorithm (RFC 8725, section 3.1): a token whose header says HS256 is judged valid by a
+/// secret of its issuer alone, and one whose header says RS256 by a public key of it alone. So none is valid by an algorithm
+/// for which its issuer has no key.
+pub fn judged_tokens_are_signed_by_their_algorithm()
+    ensures { AreUnderTheirAlgorithm }
 {}
 
 /// The claims of a token that is judged valid are read of its text without a key.

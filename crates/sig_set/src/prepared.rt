@@ -5,6 +5,7 @@ ghost use Rattle.std.specs.Prelude.{◌≡◌, IfOk, bytes_eq};
 use crate::{Issuer, Trust};
 use sig_json::{Items, Memory, Text};
 use sig_jws::{Key, PreparedKey};
+use sig_rs256::{PreparedRsaKey, RsaKey};
 use std::alloc::Global;
 use std::marker::Model;
 
@@ -12,13 +13,19 @@ use std::marker::Model;
 pub struct PreparedIssuer {
     iss: Text,
     keys: Items<PreparedKey>,
+    public_keys: Items<PreparedRsaKey>,
 }
 
 impl Drop for PreparedIssuer {
     fn drop(self) {
-        let PreparedIssuer { iss, keys } = self;
+        let PreparedIssuer {
+            iss,
+            keys,
+            public_keys,
+        } = self;
         drop(iss);
         drop(keys);
+        drop(public_keys);
     }
 }
 
@@ -27,7 +34,7 @@ impl Model for PreparedIssuer {
 
     ghost Value = { Issuer };
 
-    ghost view = { λ i. record { iss = i.iss; keys = i.keys } };
+    ghost view = { λ i. record { iss = i.iss; keys = i.keys; public_keys = i.public_keys } };
 }
 
 impl PreparedIssuer {
@@ -38,6 +45,7 @@ impl PreparedIssuer {
         Ok(PreparedIssuer {
             iss: issuer.iss.copy(alloc)?,
             keys: prepared_keys(alloc, issuer.keys.as_slice())?,
+            public_keys: prepared_public_keys(alloc, issuer.public_keys.as_slice())?,
         })
     }
 
@@ -48,11 +56,18 @@ impl PreparedIssuer {
         self.iss.as_str() == iss
     }
 
-    /// Its keys.
+    /// Its secrets.
     pub(crate) fn keys(&self) -> &[PreparedKey]
         ensures { result.now ≡ self.now.keys }
     {
         self.keys.as_slice()
+    }
+
+    /// Its public keys.
+    pub(crate) fn public_keys(&self) -> &[PreparedRsaKey]
+        ensures { result.now ≡ self.now.public_keys }
+    {
+        self.public_keys.as_slice()
     }
 }
 
@@ -110,6 +125,16 @@ fn prepared_keys(alloc: Global, keys: &[Key]) -> Result<Items<PreparedKey>, Memo
     let mut prepared = Vec::new(alloc);
     for key in keys {
         prepared.push(PreparedKey::of(key.copy(alloc)?))?;
+    }
+    Ok(Items::of(prepared))
+}
+
+fn prepared_public_keys(alloc: Global, keys: &[RsaKey]) -> Result<Items<PreparedRsaKey>, Memory>
+    ensures { IfOk result (λ prepared. prepared ≡ keys.now) }
+{
+    let mut prepared = Vec::new(alloc);
+    for key in keys {
+        prepared.push(PreparedRsaKey::of(alloc, key)?)?;
     }
     Ok(Items::of(prepared))
 }

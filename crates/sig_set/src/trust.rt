@@ -2,21 +2,30 @@ ghost use Rattle.std.specs.Prelude.{◌≡◌, IfOk};
 
 use sig_json::{Copied, Items, Memory, Same, Text, copy_items};
 use sig_jws::Key;
+use sig_rs256::RsaKey;
 use std::alloc::Global;
 
-/// An issuer whose tokens are taken, with the keys that it signs with.
+/// An issuer whose tokens are taken, with the keys that its tokens are verified by. Each algorithm has a list of its own, so
+/// that no key is taken for one of another algorithm (RFC 8725, section 3.1).
 pub struct Issuer {
     /// Its name, compared byte for byte with a token's `iss`.
     pub iss: Text,
-    /// Its keys.
+    /// The secrets that it signs under by HS256 (RFC 7518, section 3.2).
     pub keys: Items<Key>,
+    /// The public keys of those that it signs with by RS256 (RFC 7518, section 3.3).
+    pub public_keys: Items<RsaKey>,
 }
 
 impl Drop for Issuer {
     fn drop(self) {
-        let Issuer { iss, keys } = self;
+        let Issuer {
+            iss,
+            keys,
+            public_keys,
+        } = self;
         drop(iss);
         drop(keys);
+        drop(public_keys);
     }
 }
 
@@ -44,6 +53,7 @@ impl Issuer {
         Ok(Issuer {
             iss: self.iss.copy(alloc)?,
             keys: copy_items(alloc, &self.keys)?,
+            public_keys: copy_items(alloc, &self.public_keys)?,
         })
     }
 }
@@ -68,7 +78,9 @@ impl Copied for Issuer {
 
 impl Same for Issuer {
     fn same(&self, other: &Issuer) -> bool {
-        self.iss.same(&other.iss) && self.keys.same(&other.keys)
+        self.iss.same(&other.iss)
+            && self.keys.same(&other.keys)
+            && self.public_keys.same(&other.public_keys)
     }
 }
 

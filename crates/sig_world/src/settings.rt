@@ -59,6 +59,7 @@ fn replay_trust(alloc: Global) -> Result<Trust, Memory>
     issuers.push(Issuer {
         iss: Text::of(alloc, "https://idp.example")?,
         keys: Items::of(keys),
+        public_keys: Items::of(Vec::new(alloc)),
     })?;
     Ok(Trust {
         audience: Text::of(alloc, "https://rp.example")?,

@@ -20,6 +20,6 @@ returns g c =
       unasked = c.run_words-ending.ensures.unasked;
       complete = λ named told is left short in_ok out_ok flows.
           complete-status command named before after told c.finish-ending.result c.status.result ended is c.status.ensures left short in_ok out_ok flows;
-      fold = λ iss aud key told is left short in_ok out_ok flows.
-          complete-status command (Fold iss aud key) before after told c.finish-ending.result c.status.result ended is c.status.ensures left short in_ok out_ok flows;
+      fold = λ issuer aud told is left short in_ok out_ok flows.
+          complete-status command (Fold issuer aud) before after told c.finish-ending.result c.status.result ended is c.status.ensures left short in_ok out_ok flows;
     }

@@ -36,7 +36,7 @@ returns-in-Some g c =
           (g.X.Outside.store_faults c.args.outside.now) (g.X.Outside.store_faults c.run_init.new.outside) before after c.run_init.result
           a_empty b_empty stores output flows (subst ran (given_same _ ask (init_of words) c.in-Some.ensures named) ends);
       complete = λ command told named left short in_ok out_ok flows. absurd (asked_alone words _ command c.in-Some.ensures named);
-      fold = λ iss aud key told named left short in_ok out_ok flows. absurd (asked_alone words _ _ c.in-Some.ensures named);
+      fold = λ issuer aud told named left short in_ok out_ok flows. absurd (asked_alone words _ _ c.in-Some.ensures named);
       untouched = λ none init_none. absurd (given_some _ (init_of words) c.in-Some.ensures init_none);
       settings = λ none. c.run_init.ensures.settings;
       doors = c.run_init.ensures.doors;
@@ -65,7 +65,7 @@ returns-in-Some-fetch_of g c =
       fetched = λ ask named ready calm. fetched_whole ask old now before after c.run_fetch.result ready calm (subst ran (given_same _ ask (fetch_of words) given named) ends);
       made = λ ask named. absurd (given_none ask (init_of words) (sym alone.1) named);
       complete = λ command told named. absurd (given_none command _ (sym alone.0) named);
-      fold = λ iss aud key told named. absurd (given_none _ _ (sym alone.0) named);
+      fold = λ issuer aud told named. absurd (given_none _ _ (sym alone.0) named);
       untouched = λ none. absurd (given_some _ (fetch_of words) given none);
       settings = λ none. absurd (given_some _ (fetch_of words) given none);
       doors = c.run_fetch.ensures.doors;

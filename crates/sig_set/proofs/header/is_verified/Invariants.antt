@@ -5,5 +5,6 @@ use Rattle.sig_set.specs.Header.{is_verified}
 use Rattle.sig_set.proofs.header.is_verified.Given as goal
 
 abbrev pub invariant-loop-key : goal.invariant-loop-key
-invariant-loop-key l =
-    is_verified (Some l.token) (option_map view (option_copied l.kid)) l.keys ≡ is_verified (Some l.token) (option_map view (option_copied l.kid)) (drop l.key-index l.keys)
+invariant-loop-key g l =
+    is_verified g.S.Signer.name (g.S.Signer.signed (Some l.token)) (option_map view (option_copied l.kid)) l.keys
+    ≡ is_verified g.S.Signer.name (g.S.Signer.signed (Some l.token)) (option_map view (option_copied l.kid)) (drop l.key-index l.keys)

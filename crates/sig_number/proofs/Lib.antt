@@ -1,0 +1,4 @@
+pub mod ByteLemmas
+pub mod ModLemmas
+pub mod SizeLemmas
+pub mod ValueLemmas

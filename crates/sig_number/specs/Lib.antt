@@ -1,0 +1,4 @@
+pub mod Laws
+pub mod Modulus
+pub mod Ready
+pub mod Value
