@@ -8,6 +8,8 @@
 #[cfg(test)]
 mod outbox;
 #[cfg(test)]
+mod paths;
+#[cfg(test)]
 mod receiver;
 #[cfg(test)]
 mod set;

@@ -72,7 +72,7 @@ fn the_first_wrong_member_is_named(rt: HostRuntime) -> Result<(), Fail> {
 }
 
 const RECEIVER: &[u8] =
-    br#"{"audience":"https://rp.example","listen":"0.0.0.0:8081","reader":"r","issuers":[{"iss":"https://idp.example","keys":[{"k":"MDEyMzQ1Njc4OWFiY2RlZjAxMjM0NTY3ODlhYmNkZWY"}]}],"principals":[{"bearer":"b","iss":"https://idp.example"}],"poll":{"bearer":"b","iss":"https://idp.example","url":"https://tx.example/poll/s"},"tls_gateway":"gw:3128"}"#;
+    br#"{"audience":"https://rp.example","listen":"0.0.0.0:8081","reader":"r","issuers":[{"iss":"https://idp.example","keys":[{"k":"MDEyMzQ1Njc4OWFiY2RlZjAxMjM0NTY3ODlhYmNkZWY"}]}],"principals":[{"bearer":"b","iss":"https://idp.example"}],"poll":{"bearer":"p","iss":"https://idp.example","url":"https://tx.example/poll/s"},"tls_gateway":"gw:3128"}"#;
 
 // Whether they are read, with their peer and the gateway that leads to it.
 fn is_receiver_read(alloc: Global) -> Result<bool, SettingsFault> {
@@ -93,7 +93,7 @@ fn a_receivers_settings_are_read(rt: HostRuntime) -> Result<(), Fail> {
 }
 
 const WITHOUT_GATEWAY: &[u8] =
-    br#"{"audience":"https://rp.example","listen":"0.0.0.0:8081","reader":"r","issuers":[{"iss":"https://idp.example","keys":[{"k":"MDEyMzQ1Njc4OWFiY2RlZjAxMjM0NTY3ODlhYmNkZWY"}]}],"principals":[],"poll":{"bearer":"b","iss":"https://idp.example","url":"https://tx.example/poll/s"}}"#;
+    br#"{"audience":"https://rp.example","listen":"0.0.0.0:8081","reader":"r","issuers":[{"iss":"https://idp.example","keys":[{"k":"MDEyMzQ1Njc4OWFiY2RlZjAxMjM0NTY3ODlhYmNkZWY"}]}],"principals":[],"poll":{"bearer":"p","iss":"https://idp.example","url":"https://tx.example/poll/s"}}"#;
 
 fn is_receiver_refused(alloc: Global, member: &str) -> bool {
     match rx_settings(alloc, WITHOUT_GATEWAY) {
@@ -104,6 +104,6 @@ fn is_receiver_refused(alloc: Global, member: &str) -> bool {
 
 #[test]
 fn https_is_polled_through_a_gateway(rt: HostRuntime) -> Result<(), Fail> {
-    assert!(rt; is_receiver_refused(rt.alloc(), "poll"));
+    assert!(rt; is_receiver_refused(rt.alloc(), "poll.url"));
     Ok(())
 }

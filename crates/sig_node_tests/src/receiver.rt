@@ -10,7 +10,7 @@ use std::alloc::Global;
 use std::test::Fail;
 
 const SETTINGS: &[u8] =
-    br#"{"audience":"https://rp.example","listen":"0.0.0.0:8081","reader":"r","issuers":[{"iss":"https://idp.example","keys":[{"k":"MDEyMzQ1Njc4OWFiY2RlZjAxMjM0NTY3ODlhYmNkZWY"}]}],"principals":[{"bearer":"b","iss":"https://idp.example"}],"poll":{"bearer":"b","iss":"https://idp.example","url":"https://tx.example/poll/s"},"tls_gateway":"gw:3128"}"#;
+    br#"{"audience":"https://rp.example","listen":"0.0.0.0:8081","reader":"r","issuers":[{"iss":"https://idp.example","keys":[{"k":"MDEyMzQ1Njc4OWFiY2RlZjAxMjM0NTY3ODlhYmNkZWY"}]}],"principals":[{"bearer":"b","iss":"https://idp.example"}],"poll":{"bearer":"p","iss":"https://idp.example","url":"https://tx.example/poll/s"},"tls_gateway":"gw:3128"}"#;
 
 // A token by an independent signer (`tools/cases/sign_tokens.py`, by Python's hmac, base64 and json).
 const TOKEN: &[u8] =

@@ -13,8 +13,8 @@ pub enum ServeEnd {
     Done,
     /// The settings couldn't be opened, or reading them failed. The outside counted it as a fault of the settings.
     SettingsFailed,
-    /// This member of the settings is missing or wrong; it is `length` where there are too many bytes, and `body` where they
-    /// spell no JSON object. No file of the store was opened.
+    /// What is at this path of the settings is missing or wrong; it is `length` where there are too many bytes, and `body`
+    /// where they spell no JSON object. No file of the store was opened.
     Refused(Text),
     /// A file of the store couldn't be opened, or its disk failed. The outside counted it as a fault of the stores.
     StoreFailed,

@@ -10,8 +10,8 @@ use sig_settings::SettingsFault;
 pub enum Unread {
     /// They couldn't be opened, or reading them failed. The outside counted it as a fault of the settings.
     Failed,
-    /// This member is missing or wrong; it is `length` where there are too many bytes, and `body` where they spell no JSON
-    /// object.
+    /// What is at this path is missing or wrong; it is `length` where there are too many bytes, and `body` where they spell no
+    /// JSON object.
     Refused(Text),
     /// Out of memory.
     Memory,

@@ -2,7 +2,6 @@
 use Rattle.std.proofs.Common.{◌≡◌, ℕ, List, Option, refl, inl, inr}
 use Rattle.std.specs.Prelude.{Result, Ok, Err, codes, ◌⊎◌}
 use Rattle.serde_json.specs.Data.{Data}
-use Rattle.serde_json.specs.Find.{as_str}
 use Rattle.sig_outside.specs.declared.place.Place.{Place}
 use Rattle.sig_set.specs.declared.trust.Issuer.{Issuer}
 use Rattle.sig_rxnode.specs.declared.rules.Peer.{Peer}
@@ -10,20 +9,20 @@ use Rattle.sig_rxnode.specs.declared.rules.Principal.{Principal}
 use Rattle.sig_settings.specs.declared.fault.SettingsFault.{SettingsFault}
 use Rattle.sig_settings.specs.Members.{needed, optional}
 use Rattle.sig_settings.specs.Places.{place_at}
-use Rattle.sig_settings.specs.Texts.{bearer_at}
+use Rattle.sig_settings.specs.Texts.{bearer_at, text_at}
 use Rattle.sig_rxsettings.specs.Issuers.{issuers_at}
 use Rattle.sig_rxsettings.specs.Peers.{peer_in, with_gateway}
-use Rattle.sig_rxsettings.specs.Principals.{principals_at}
+use Rattle.sig_rxsettings.specs.Principals.{principals_in}
 use Rattle.sig_rxsettings.specs.Settings.{rx_settings_in}
 
 -- the members before the gateway
 pub record Begun (d : Data) (audience : List ℕ) (listen : Place) (reader : List ℕ) (issuers : List Issuer) (principals : List Principal) (peer : Option Peer) : Type 0 where
-  pub audience_is : needed as_str (codes "audience") d ≡ Ok audience
+  pub audience_is : needed text_at (codes "audience") d ≡ Ok audience
   pub listen_is : needed place_at (codes "listen") d ≡ Ok listen
   pub reader_is : needed bearer_at (codes "reader") d ≡ Ok reader
   pub issuers_is : needed issuers_at (codes "issuers") d ≡ Ok issuers
-  pub principals_is : needed principals_at (codes "principals") d ≡ Ok principals
-  pub peer_is : peer_in d ≡ Ok peer
+  pub principals_is : principals_in reader d ≡ Ok principals
+  pub peer_is : peer_in reader principals d ≡ Ok peer
 
 pub all_read : (d : Data) (audience : List ℕ) (listen : Place) (reader : List ℕ) (issuers : List Issuer) (principals : List Principal) (peer : Option Peer) (gateway : Option Place) (placed : Option Peer)
     → Begun d audience listen reader issuers principals peer → optional place_at (codes "tls_gateway") d ≡ Ok gateway → placed ≡ with_gateway gateway peer

@@ -1,4 +1,5 @@
 pub mod Issuers
+pub mod Keys
 pub mod Peers
 pub mod Principals
 pub mod Settings

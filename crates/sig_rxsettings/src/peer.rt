@@ -1,38 +1,72 @@
 //! The transmitter whose tokens a receiver fetches.
 
-ghost use Rattle.std.specs.Prelude.{◌≡◌, option_and_then};
+ghost use Rattle.std.specs.Prelude.{◌≡◌, ◌⊎◌};
 ghost use Rattle.serde_json.specs.View.{view};
 ghost use Rattle.sig_json.specs.Answers.{Answers};
+ghost use Rattle.sig_settings.specs.declared.fault.ValueFault.TheVariants.{Wrong};
+ghost use Rattle.sig_settings.specs.Members.{told_of};
 ghost use Rattle.sig_rxsettings.specs.Peers as spec;
 
-use sig_json::{Memory, Value, present};
+use crate::principal::Bearer;
+use sig_json::{Text, Value, present};
 use sig_outside::Place;
-use sig_rxnode::Peer;
+use sig_rxnode::{Peer, Principal};
 use sig_settings::{
-    AnyText, BearerText, SettingKind, SettingsFault, member_in, named, optional_in,
+    AnyText, BearerText, SettingKind, SettingsFault, ValueFault, found, in_member, itself,
+    member_in, optional, told, was_read, whole,
 };
 use sig_stream::endpoint_of;
 use sig_terms::Endpoint;
 use std::alloc::Global;
 
-/// The peer of settings, without its gateway yet. `poll` is named exactly where it is there and no such object, or its URL is
-/// one of `https` and there is no `tls_gateway`.
+/// The peer of settings with this reader and these principals, without its gateway yet. What is missing or wrong in it is told
+/// by its path: `poll.url` also where the URL is one of `https` and there is no `tls_gateway`, and then `poll.bearer` where it
+/// is the reader's or a principal's.
 #[tactic(auto, unfolding(crate::specs::Peers::peer_in))]
-pub fn peer_in(alloc: Global, settings: &Value) -> Result<Option<Peer>, SettingsFault>
-    ensures { Answers SettingsFault.Memory result (spec.peer_in (view settings.now)) }
+pub fn peer_in(
+    alloc: Global,
+    settings: &Value,
+    reader: &Text,
+    principals: &[Principal],
+) -> Result<Option<Peer>, SettingsFault>
+    ensures { Answers SettingsFault.Memory result (spec.peer_in reader.now principals.now (view settings.now)) }
 {
-    let found = optional_in::<PeerObject>(alloc, settings, "poll")?;
-    let has_gateway = present(settings, "tls_gateway");
-    named(alloc, where_reached(has_gateway, found), "poll")
+    let peer = optional::<PeerObject>(alloc, settings, "poll")?;
+    is_reached(alloc, present(settings, "tls_gateway"), &peer)?;
+    has_own_bearer(alloc, reader, principals, &peer)?;
+    Ok(peer)
 }
 
-fn where_reached(has_gateway: bool, found: Option<Option<Peer>>) -> Option<Option<Peer>>
-    ensures { result ≡ option_and_then (spec.where_reached has_gateway) found }
+fn is_reached(alloc: Global, gateway: bool, peer: &Option<Peer>) -> Result<(), SettingsFault>
+    ensures { Answers SettingsFault.Memory result (spec.is_reached gateway peer.now) }
 {
-    match found {
-        Some(Some(peer)) if peer.endpoint.secure && !has_gateway => None,
-        found => found,
+    match peer {
+        Some(peer) if peer.endpoint.secure && !gateway => Err(wrong_peer(alloc, "url")),
+        _ => Ok(()),
     }
+}
+
+fn has_own_bearer(
+    alloc: Global,
+    reader: &Text,
+    principals: &[Principal],
+    peer: &Option<Peer>,
+) -> Result<(), SettingsFault>
+    ensures { Answers SettingsFault.Memory result (spec.has_own_bearer reader.now principals.now peer.now) }
+{
+    match peer {
+        Some(peer) if was_read::<Bearer>(&peer.bearer, reader, principals) => {
+            Err(wrong_peer(alloc, "bearer"))
+        }
+        _ => Ok(()),
+    }
+}
+
+fn wrong_peer(alloc: Global, name: &str) -> SettingsFault
+    ensures { (result ≡ SettingsFault.Memory) ⊎ (result ≡ told_of (Wrong (spec.peer_path name.now))) }
+{
+    let member = in_member(alloc, name, itself(alloc));
+    told(alloc, in_member(alloc, "poll", member))
 }
 
 /// The peer with its gateway, where its endpoint is `https`.
@@ -55,22 +89,17 @@ impl SettingKind for PeerObject {
 
     ghost said = { spec.peer_at };
 
-    fn keep(alloc: Global, value: &Value) -> Result<Option<Peer>, Memory> {
-        let Some(bearer) = member_in::<BearerText>(alloc, value, "bearer")? else {
-            return Ok(None);
-        };
-        let Some(iss) = member_in::<AnyText>(alloc, value, "iss")? else {
-            return Ok(None);
-        };
-        let Some(endpoint) = member_in::<UrlText>(alloc, value, "url")? else {
-            return Ok(None);
-        };
-        Ok(Some(Peer {
+    fn keep(alloc: Global, value: &Value) -> Result<Peer, ValueFault> {
+        whole(alloc, value)?;
+        let bearer = member_in::<BearerText>(alloc, value, "bearer")?;
+        let iss = member_in::<AnyText>(alloc, value, "iss")?;
+        let endpoint = member_in::<UrlText>(alloc, value, "url")?;
+        Ok(Peer {
             endpoint,
             gateway: None,
             bearer,
             iss,
-        }))
+        })
     }
 }
 
@@ -81,10 +110,10 @@ impl SettingKind for UrlText {
 
     ghost said = { spec.endpoint_at };
 
-    fn keep(alloc: Global, value: &Value) -> Result<Option<Endpoint>, Memory> {
+    fn keep(alloc: Global, value: &Value) -> Result<Endpoint, ValueFault> {
         match value.as_str() {
-            Some(url) => endpoint_of(alloc, url),
-            None => Ok(None),
+            Some(url) => found(alloc, endpoint_of(alloc, url)?),
+            None => Err(itself(alloc)),
         }
     }
 }

@@ -2,37 +2,51 @@
 
 ghost use Rattle.std.specs.Prelude.{◌≡◌};
 ghost use Rattle.serde_json.specs.View.{view};
+ghost use Rattle.sig_json.specs.Answers.{Answers};
 ghost use Rattle.sig_rxsettings.specs.Principals as spec;
 
 use sig_json::limits::PRINCIPALS;
-use sig_json::{Items, Memory, Text, Value};
+use sig_json::{Items, Text, Value};
 use sig_rxnode::Principal;
-use sig_settings::{AnyText, BearerText, ListOf, SettingKind, TextOf, each_once, member_in};
+use sig_settings::{
+    AnyText, BearerText, ListOf, SettingKind, SettingsFault, TextOf, ValueFault, bearers_differ,
+    itself, member_in, needed, whole,
+};
 use std::alloc::Global;
 
-/// At most 64 principals with bearers of their own.
-pub struct PrincipalList;
+/// The principals of settings with this reader. What is missing or wrong in them is told by its path: `principals` where they are
+/// no list of at most 64, and a principal's bearer where it is the reader's or that of a principal before it.
+#[tactic(auto, unfolding(crate::specs::Principals::principals_in))]
+pub fn principals_in(
+    alloc: Global,
+    settings: &Value,
+    reader: &Text,
+) -> Result<Items<Principal>, SettingsFault>
+    ensures { Answers SettingsFault.Memory result (spec.principals_in reader.now (view settings.now)) }
+{
+    let principals = needed::<PrincipalList>(alloc, settings, "principals")?;
+    bearers_differ::<Bearer>(alloc, reader, principals.as_slice(), "principals")?;
+    Ok(principals)
+}
+
+struct PrincipalList;
 
 impl SettingKind for PrincipalList {
     type Kept = Items<Principal>;
 
     ghost said = { spec.principals_at };
 
-    fn keep(alloc: Global, value: &Value) -> Result<Option<Items<Principal>>, Memory> {
-        match ListOf::<PrincipalObject>::keep(alloc, value)? {
-            Some(principals) if are_apart(principals.as_slice()) => Ok(Some(principals)),
-            _ => Ok(None),
+    fn keep(alloc: Global, value: &Value) -> Result<Items<Principal>, ValueFault> {
+        let principals = ListOf::<PrincipalObject>::keep(alloc, value)?;
+        if principals.as_slice().len() > PRINCIPALS {
+            return Err(itself(alloc));
         }
+        Ok(principals)
     }
 }
 
-fn are_apart(principals: &[Principal]) -> bool
-    ensures { result ≡ spec.are_apart principals.now }
-{
-    principals.len() <= PRINCIPALS && each_once::<Bearer>(principals)
-}
-
-struct Bearer;
+/// Principals told apart by their bearers.
+pub struct Bearer;
 
 impl TextOf for Bearer {
     type Item = Principal;
@@ -51,13 +65,10 @@ impl SettingKind for PrincipalObject {
 
     ghost said = { spec.principal_at };
 
-    fn keep(alloc: Global, value: &Value) -> Result<Option<Principal>, Memory> {
-        let Some(bearer) = member_in::<BearerText>(alloc, value, "bearer")? else {
-            return Ok(None);
-        };
-        let Some(iss) = member_in::<AnyText>(alloc, value, "iss")? else {
-            return Ok(None);
-        };
-        Ok(Some(Principal { bearer, iss }))
+    fn keep(alloc: Global, value: &Value) -> Result<Principal, ValueFault> {
+        whole(alloc, value)?;
+        let bearer = member_in::<BearerText>(alloc, value, "bearer")?;
+        let iss = member_in::<AnyText>(alloc, value, "iss")?;
+        Ok(Principal { bearer, iss })
     }
 }

@@ -8,7 +8,7 @@ ghost use Rattle.sig_rxsettings.specs.Settings as spec;
 
 use crate::issuer::IssuerList;
 use crate::peer::{peer_in, with_gateway};
-use crate::principal::PrincipalList;
+use crate::principal::principals_in;
 use sig_json::Value;
 use sig_outside::Place;
 use sig_rxnode::RxRules;
@@ -27,12 +27,13 @@ pub struct RxSettings {
 
 /// Reads the settings of a receiver; unknown members are passed over.
 ///
-/// `Refused` names the first of these that is missing or wrong, in this order: `length`, at most 1,048,576 bytes; `body`, a
-/// JSON object; `audience`, a text; `listen`, a host, `:` and a port; `reader`, a bearer token (RFC 6750, section 2.1);
-/// `issuers`, at most 64 objects `{"iss", "keys"}` with names of their own and one to four keys `{"k", "kid"}`;
-/// `principals`, at most 64 objects `{"bearer", "iss"}` with bearers of their own; `poll`, an object
-/// `{"bearer", "iss", "url"}` whose URL spells an endpoint, one of `https` only where `tls_gateway` is there; and
-/// `tls_gateway`, a host, `:` and a port. The last two may be missing.
+/// `Refused` tells the path of the first of these that is missing or wrong, in this order: `length`, at most 1,048,576 bytes;
+/// `body`, a JSON object; `audience`, a text; `listen`, a host, `:` and a port; `reader`, a bearer token (RFC 6750, section
+/// 2.1); `issuers`, at most 64 objects `{"iss", "keys"}` with names of their own and one to four keys, each a secret
+/// `{"k", "kid"}` or a public key `{"kty", "alg", "kid", "n", "e"}` (RFC 7518, section 6.3.1); `principals`, at most 64 objects
+/// `{"bearer", "iss"}` with bearers that differ from the reader's and from each other; `poll`, an object
+/// `{"bearer", "iss", "url"}` whose URL spells an endpoint, one of `https` only where `tls_gateway` is there, and whose bearer
+/// is none of those; and `tls_gateway`, a host, `:` and a port. The last two may be missing.
 #[tactic(auto, unfolding(crate::specs::Settings::rx_settings_of))]
 pub fn rx_settings(alloc: Global, bytes: &[u8]) -> Result<RxSettings, SettingsFault>
     ensures told { Answers SettingsFault.Memory result (spec.rx_settings_of bytes.now) }
@@ -49,8 +50,8 @@ fn rx_settings_in(alloc: Global, settings: &Value) -> Result<RxSettings, Setting
     let listen = needed::<PlaceText>(alloc, settings, "listen")?;
     let reader = needed::<BearerText>(alloc, settings, "reader")?;
     let issuers = needed::<IssuerList>(alloc, settings, "issuers")?;
-    let principals = needed::<PrincipalList>(alloc, settings, "principals")?;
-    let peer = peer_in(alloc, settings)?;
+    let principals = principals_in(alloc, settings, &reader)?;
+    let peer = peer_in(alloc, settings, &reader, principals.as_slice())?;
     let gateway = optional::<PlaceText>(alloc, settings, "tls_gateway")?;
     let rules = RxRules {
         trust: Trust { audience, issuers },

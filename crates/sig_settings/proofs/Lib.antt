@@ -1,3 +1,4 @@
 pub mod Collected
 pub mod PlaceReading
+pub mod Reading
 pub mod Steps

@@ -1,7 +1,8 @@
+pub mod Bearers
 pub mod Keys
 pub mod Lists
 pub mod Members
 pub mod Objects
+pub mod Paths
 pub mod Places
-pub mod Steps
 pub mod Texts

@@ -1,11 +1,13 @@
 -- A host and a port, as the authority of a URL has them (RFC 3986, section 3.2).
-use Rattle.std.specs.Prelude.{◌≡◌, ◌↔◌, ◌≤◌, ◌<◌, ◌&&◌, ◌^◌, ℕ, List, ◌++◌, Bool, not, Option, Some, None, option_and_then, option_map, codes, decimal, if◌then◌else◌}
+use Rattle.std.specs.Prelude.{◌≡◌, ◌↔◌, ◌≤◌, ◌<◌, ◌&&◌, ◌^◌, ℕ, List, ◌++◌, Bool, not, Option, Some, None, Result, option_and_then, option_map, codes, decimal, if◌then◌else◌}
 use Rattle.std.specs.List.{list_any}
 use Rattle.serde_json.specs.Data.{Data}
 use Rattle.serde_json.specs.Find.{as_str}
 use Rattle.sig_outside.specs.declared.place.Place.{Place}
 use Rattle.sig_terms.specs.declared.endpoint.Endpoint.{Endpoint}
 use Rattle.sig_stream.specs.Endpoints.{IsHost, endpoint_of, is_colon, is_slash}
+use Rattle.sig_settings.specs.declared.fault.ValueFault.{ValueFault}
+use Rattle.sig_settings.specs.Members.{found}
 
 -- ---- the relation
 
@@ -30,8 +32,8 @@ abbrev pub place_of : List ℕ → Option Place
 place_of text = if names_port text then option_map place_in (endpoint_of (codes "http://" ++ text)) else None
 
 -- a text that spells a place
-abbrev pub place_at : Data → Option Place
-place_at d = option_and_then place_of (as_str d)
+abbrev pub place_at : Data → Result Place ValueFault
+place_at d = found (option_and_then place_of (as_str d))
 
 -- ---- the law
 

@@ -1,14 +1,14 @@
 //! Keys of settings.
 
-ghost use Rattle.std.specs.Prelude.{◌≡◌, IfOk};
+ghost use Rattle.std.specs.Prelude.{◌≡◌};
 ghost use Rattle.std.specs.List.{list_all};
 ghost use Rattle.serde_json.specs.View.{view};
 ghost use Rattle.sig_settings.specs.Keys as spec;
 
-use crate::SettingKind;
-use crate::member::{member_in, optional_in};
+use crate::member::{member_in, optional_in, whole};
+use crate::{SettingKind, ValueFault, found, itself};
 use sig_json::limits::KEY_NAME_BYTES;
-use sig_json::{Bytes, Memory, Text, Value};
+use sig_json::{Bytes, Text, Value};
 use sig_jws::{Key, key_of};
 use std::alloc::Global;
 
@@ -21,14 +21,11 @@ impl SettingKind for KeyObject {
 
     ghost said = { spec.key_at };
 
-    fn keep(alloc: Global, value: &Value) -> Result<Option<Key>, Memory> {
-        let Some(bytes) = member_in::<KeyBytes>(alloc, value, "k")? else {
-            return Ok(None);
-        };
-        let Some(kid) = optional_in::<KeyName>(alloc, value, "kid")? else {
-            return Ok(None);
-        };
-        Ok(Some(Key { kid, bytes }))
+    fn keep(alloc: Global, value: &Value) -> Result<Key, ValueFault> {
+        whole(alloc, value)?;
+        let bytes = member_in::<KeyBytes>(alloc, value, "k")?;
+        let kid = optional_in::<KeyName>(alloc, value, "kid")?;
+        Ok(Key { kid, bytes })
     }
 }
 
@@ -39,25 +36,26 @@ impl SettingKind for KeyBytes {
 
     ghost said = { spec.key_bytes_at };
 
-    fn keep(alloc: Global, value: &Value) -> Result<Option<Bytes>, Memory> {
+    fn keep(alloc: Global, value: &Value) -> Result<Bytes, ValueFault> {
         match value.as_str() {
-            Some(word) => key_of(alloc, word),
-            None => Ok(None),
+            Some(word) => found(alloc, key_of(alloc, word)?),
+            None => Err(itself(alloc)),
         }
     }
 }
 
-struct KeyName;
+/// A key's name: 1 to 64 of `A-Z a-z 0-9 . _ -`.
+pub struct KeyName;
 
 impl SettingKind for KeyName {
     type Kept = Text;
 
     ghost said = { spec.key_name_at };
 
-    fn keep(alloc: Global, value: &Value) -> Result<Option<Text>, Memory> {
+    fn keep(alloc: Global, value: &Value) -> Result<Text, ValueFault> {
         match value.as_str() {
-            Some(name) if is_key_name(name) => Ok(Some(Text::of(alloc, name)?)),
-            _ => Ok(None),
+            Some(name) if is_key_name(name) => Ok(Text::of(alloc, name)?),
+            _ => Err(itself(alloc)),
         }
     }
 }

@@ -1,11 +1,13 @@
 //! Lists in settings.
 
-ghost use Rattle.std.specs.Prelude.{◌≡◌, ℕ, IfOk, List};
+ghost use Rattle.std.specs.Prelude.{◌≡◌, ℕ, List};
 ghost use Rattle.serde_json.specs.View.{items_view, view};
+ghost use Rattle.sig_json.specs.Answers.{Answers};
 ghost use Rattle.sig_settings.specs.Lists as spec;
 
-use crate::SettingKind;
-use sig_json::{Items, Memory, Text, Value};
+use crate::path::deeper;
+use crate::{SettingKind, Step, ValueFault, itself};
+use sig_json::{Items, Text, Value};
 use std::alloc::Global;
 use std::marker::PhantomData;
 
@@ -19,30 +21,34 @@ impl<K: SettingKind> SettingKind for ListOf<K> {
 
     ghost said = { spec.list_at K.said };
 
-    fn keep(alloc: Global, value: &Value) -> Result<Option<Items<K::Kept>>, Memory> {
+    fn keep(alloc: Global, value: &Value) -> Result<Items<K::Kept>, ValueFault> {
         match value.as_array() {
             Some(items) => all_kept::<K>(alloc, items.as_slice()),
-            None => Ok(None),
+            None => Err(itself(alloc)),
         }
     }
 }
 
 // What the items say, where each is of the kind.
-#[tactic(auto, using(crate::proofs::Collected::behind_nothing, crate::proofs::Collected::behind_all, crate::proofs::Collected::one_behind))]
-fn all_kept<K: SettingKind>(
-    alloc: Global,
-    items: &[Value],
-) -> Result<Option<Items<K::Kept>>, Memory>
-    ensures { IfOk result (λ kept. kept ≡ spec.items_kept K.said (items_view items.now)) }
+fn all_kept<K: SettingKind>(alloc: Global, items: &[Value]) -> Result<Items<K::Kept>, ValueFault>
+    ensures { Answers ValueFault.Memory result (spec.items_kept K.said 0 (items_view items.now)) }
 {
     let mut all = Vec::new(alloc);
-    for item in items {
-        let Some(kept) = K::keep(alloc, item)? else {
-            return Ok(None);
-        };
+    for (i, item) in items.iter().enumerate() {
+        let kept = kept_at::<K>(alloc, item, i)?;
         all.push(kept)?;
     }
-    Ok(Some(Items::of(all)))
+    Ok(Items::of(all))
+}
+
+// What the item at this place says.
+fn kept_at<K: SettingKind>(alloc: Global, item: &Value, place: usize) -> Result<K::Kept, ValueFault>
+    ensures { Answers ValueFault.Memory result (spec.kept_at K.said place (view item.now)) }
+{
+    match K::keep(alloc, item) {
+        Ok(kept) => Ok(kept),
+        Err(fault) => Err(deeper(Step::Place(place), fault)),
+    }
 }
 
 /// A text of each item of a list, by which the items are told apart.

@@ -7,7 +7,7 @@ ghost use Rattle.serde_json.specs.View.{view};
 ghost use Rattle.sig_stream.specs.Endpoints.{is_colon, is_slash};
 ghost use Rattle.sig_settings.specs.Places as spec;
 
-use crate::SettingKind;
+use crate::{SettingKind, ValueFault, found, itself};
 use sig_json::{Memory, Value};
 use sig_outside::Place;
 use sig_stream::endpoint_of;
@@ -53,10 +53,10 @@ impl SettingKind for PlaceText {
 
     ghost said = { spec.place_at };
 
-    fn keep(alloc: Global, value: &Value) -> Result<Option<Place>, Memory> {
+    fn keep(alloc: Global, value: &Value) -> Result<Place, ValueFault> {
         match value.as_str() {
-            Some(text) => place_of(alloc, text),
-            None => Ok(None),
+            Some(text) => found(alloc, place_of(alloc, text)?),
+            None => Err(itself(alloc)),
         }
     }
 }

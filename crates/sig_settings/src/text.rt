@@ -1,14 +1,13 @@
 //! Texts of settings.
 
-ghost use Rattle.std.specs.Prelude.{◌≡◌, IfOk};
+ghost use Rattle.std.specs.Prelude.{◌≡◌};
 ghost use Rattle.std.specs.Char.{is_ascii_graphic};
 ghost use Rattle.std.specs.List.{list_all};
-ghost use Rattle.serde_json.specs.Find.{as_str};
 ghost use Rattle.serde_json.specs.View.{view};
 ghost use Rattle.sig_settings.specs.Texts as spec;
 
-use crate::SettingKind;
-use sig_json::{Memory, Text, Value};
+use crate::{SettingKind, ValueFault, itself};
+use sig_json::{Text, Value};
 use std::alloc::Global;
 
 /// Any text.
@@ -17,12 +16,12 @@ pub struct AnyText;
 impl SettingKind for AnyText {
     type Kept = Text;
 
-    ghost said = { as_str };
+    ghost said = { spec.text_at };
 
-    fn keep(alloc: Global, value: &Value) -> Result<Option<Text>, Memory> {
+    fn keep(alloc: Global, value: &Value) -> Result<Text, ValueFault> {
         match value.as_str() {
-            Some(text) => Ok(Some(Text::of(alloc, text)?)),
-            None => Ok(None),
+            Some(text) => Ok(Text::of(alloc, text)?),
+            None => Err(itself(alloc)),
         }
     }
 }
@@ -35,10 +34,10 @@ impl SettingKind for FilledText {
 
     ghost said = { spec.filled_at };
 
-    fn keep(alloc: Global, value: &Value) -> Result<Option<Text>, Memory> {
+    fn keep(alloc: Global, value: &Value) -> Result<Text, ValueFault> {
         match value.as_str() {
-            Some(text) if !text.is_empty() => Ok(Some(Text::of(alloc, text)?)),
-            _ => Ok(None),
+            Some(text) if !text.is_empty() => Ok(Text::of(alloc, text)?),
+            _ => Err(itself(alloc)),
         }
     }
 }
@@ -51,10 +50,10 @@ impl SettingKind for BearerText {
 
     ghost said = { spec.bearer_at };
 
-    fn keep(alloc: Global, value: &Value) -> Result<Option<Text>, Memory> {
+    fn keep(alloc: Global, value: &Value) -> Result<Text, ValueFault> {
         match value.as_str() {
-            Some(text) if is_bearer(text) => Ok(Some(Text::of(alloc, text)?)),
-            _ => Ok(None),
+            Some(text) if is_bearer(text) => Ok(Text::of(alloc, text)?),
+            _ => Err(itself(alloc)),
         }
     }
 }

@@ -1,8 +1,7 @@
--- The settings of a transmitter: a JSON object whose members are read in order. The first that is missing or wrong is named, and members
--- that nobody names are passed over.
+-- The settings of a transmitter: a JSON object whose members are read in order. The first value that is missing or wrong is told
+-- by its path, and members that nobody names are passed over.
 use Rattle.std.specs.Prelude.{ℕ, List, Result, Ok, codes}
 use Rattle.serde_json.specs.Data.{Data}
-use Rattle.serde_json.specs.Find.{as_str}
 use Rattle.sig_terms.specs.declared.rules.Rules.{Rules}
 use Rattle.sig_stream.specs.Steps.{◌>>=◌}
 use Rattle.sig_settings.specs.declared.fault.SettingsFault.{SettingsFault}
@@ -10,7 +9,7 @@ use Rattle.sig_settings.specs.Keys.{key_at}
 use Rattle.sig_settings.specs.Members.{needed, optional}
 use Rattle.sig_settings.specs.Objects.{settings_of}
 use Rattle.sig_settings.specs.Places.{place_at}
-use Rattle.sig_settings.specs.Texts.{bearer_at, filled_at}
+use Rattle.sig_settings.specs.Texts.{bearer_at, filled_at, text_at}
 use Rattle.sig_txsettings.specs.declared.settings.TxSettings.{TxSettings}
 use Rattle.sig_txsettings.specs.Clients.{clients_in}
 use Rattle.sig_txsettings.specs.Values.{defaults_at, interval_at}
@@ -30,7 +29,7 @@ rules_in issuer base d = do
 abbrev pub tx_settings_in : Data → Result TxSettings SettingsFault
 tx_settings_in d = do
   issuer ← needed filled_at (codes "issuer") d
-  base ← needed as_str (codes "base") d
+  base ← needed text_at (codes "base") d
   listen ← needed place_at (codes "listen") d
   rules ← rules_in issuer base d
   Ok (record { rules = rules; listen = listen })

@@ -1,6 +1,6 @@
 //! The clients of a transmitter.
 
-ghost use Rattle.std.specs.Prelude.{◌≡◌, IfOk, option_and_then};
+ghost use Rattle.std.specs.Prelude.{◌≡◌};
 ghost use Rattle.std.specs.List.{list_all};
 ghost use Rattle.serde_json.specs.View.{view};
 ghost use Rattle.sig_json.specs.Answers.{Answers};
@@ -8,16 +8,17 @@ ghost use Rattle.sig_history.specs.Sound.{is_client_name, is_name_character};
 ghost use Rattle.sig_txsettings.specs.Clients as spec;
 
 use sig_json::limits::{CLIENT_NAME_BYTES, CLIENTS};
-use sig_json::{Items, Memory, Text, Value};
+use sig_json::{Items, Text, Value};
 use sig_settings::{
-    AnyText, BearerText, ListOf, SettingKind, SettingsFault, TextOf, each_once, is_among,
-    member_in, named,
+    AnyText, BearerText, ListOf, SettingKind, SettingsFault, TextOf, ValueFault, bearers_differ,
+    each_once, itself, member_in, needed, whole,
 };
 use sig_terms::Client;
 use std::alloc::Global;
 
-/// The clients of settings with this operator. They are named exactly where they are missing, no list of at most 64
-/// clients with names and bearers of their own, or one has the operator's bearer.
+/// The clients of settings with this operator. What is missing or wrong in them is told by its path: `clients` where they are no
+/// list of at most 64 clients with names of their own, and a client's bearer where it is the operator's or that of a client
+/// before it.
 #[tactic(auto, unfolding(crate::specs::Clients::clients_in))]
 pub fn clients_in(
     alloc: Global,
@@ -26,18 +27,9 @@ pub fn clients_in(
 ) -> Result<Items<Client>, SettingsFault>
     ensures { Answers SettingsFault.Memory result (spec.clients_in operator.now (view settings.now)) }
 {
-    let found = member_in::<ClientList>(alloc, settings, "clients")?;
-    named(alloc, apart_from(operator, found), "clients")
-}
-
-// The clients, where none has the operator's bearer.
-fn apart_from(operator: &Text, clients: Option<Items<Client>>) -> Option<Items<Client>>
-    ensures { result ≡ option_and_then (spec.where_apart_from operator.now) clients }
-{
-    match clients {
-        Some(clients) if !is_among::<Bearer>(operator, clients.as_slice()) => Some(clients),
-        _ => None,
-    }
+    let clients = needed::<ClientList>(alloc, settings, "clients")?;
+    bearers_differ::<Bearer>(alloc, operator, clients.as_slice(), "clients")?;
+    Ok(clients)
 }
 
 struct ClientList;
@@ -47,18 +39,19 @@ impl SettingKind for ClientList {
 
     ghost said = { spec.clients_at };
 
-    fn keep(alloc: Global, value: &Value) -> Result<Option<Items<Client>>, Memory> {
-        match ListOf::<ClientObject>::keep(alloc, value)? {
-            Some(clients) if are_apart(clients.as_slice()) => Ok(Some(clients)),
-            _ => Ok(None),
+    fn keep(alloc: Global, value: &Value) -> Result<Items<Client>, ValueFault> {
+        let clients = ListOf::<ClientObject>::keep(alloc, value)?;
+        if !are_apart(clients.as_slice()) {
+            return Err(itself(alloc));
         }
+        Ok(clients)
     }
 }
 
 fn are_apart(clients: &[Client]) -> bool
     ensures { result ≡ spec.are_apart clients.now }
 {
-    clients.len() <= CLIENTS && each_once::<Name>(clients) && each_once::<Bearer>(clients)
+    clients.len() <= CLIENTS && each_once::<Name>(clients)
 }
 
 struct Name;
@@ -92,17 +85,12 @@ impl SettingKind for ClientObject {
 
     ghost said = { spec.client_at };
 
-    fn keep(alloc: Global, value: &Value) -> Result<Option<Client>, Memory> {
-        let Some(aud) = member_in::<Audience>(alloc, value, "aud")? else {
-            return Ok(None);
-        };
-        let Some(bearer) = member_in::<BearerText>(alloc, value, "bearer")? else {
-            return Ok(None);
-        };
-        let Some(name) = member_in::<ClientName>(alloc, value, "name")? else {
-            return Ok(None);
-        };
-        Ok(Some(Client { name, bearer, aud }))
+    fn keep(alloc: Global, value: &Value) -> Result<Client, ValueFault> {
+        whole(alloc, value)?;
+        let aud = member_in::<Audience>(alloc, value, "aud")?;
+        let bearer = member_in::<BearerText>(alloc, value, "bearer")?;
+        let name = member_in::<ClientName>(alloc, value, "name")?;
+        Ok(Client { name, bearer, aud })
     }
 }
 
@@ -113,11 +101,12 @@ impl SettingKind for Audience {
 
     ghost said = { spec.audience_at };
 
-    fn keep(alloc: Global, value: &Value) -> Result<Option<Items<Text>>, Memory> {
-        match ListOf::<AnyText>::keep(alloc, value)? {
-            Some(texts) if !texts.as_slice().is_empty() => Ok(Some(texts)),
-            _ => Ok(None),
+    fn keep(alloc: Global, value: &Value) -> Result<Items<Text>, ValueFault> {
+        let texts = ListOf::<AnyText>::keep(alloc, value)?;
+        if texts.as_slice().is_empty() {
+            return Err(itself(alloc));
         }
+        Ok(texts)
     }
 }
 
@@ -128,10 +117,10 @@ impl SettingKind for ClientName {
 
     ghost said = { spec.client_name_at };
 
-    fn keep(alloc: Global, value: &Value) -> Result<Option<Text>, Memory> {
+    fn keep(alloc: Global, value: &Value) -> Result<Text, ValueFault> {
         match value.as_str() {
-            Some(name) if is_client_name(name) => Ok(Some(Text::of(alloc, name)?)),
-            _ => Ok(None),
+            Some(name) if is_client_name(name) => Ok(Text::of(alloc, name)?),
+            _ => Err(itself(alloc)),
         }
     }
 }

@@ -3,8 +3,9 @@
 //!     bytes -> object -> issuer, base, listen, operator, default_subjects, .. -> rules and the place to listen at
 //!
 //! It stands on `sig_settings` for the members, on `sig_terms` for the rules, and on `sig_calls` for which rules a
-//! transmitter may have. Promised: settings are read exactly as `specs/Settings` says, and else the first member that is
-//! missing or wrong is named; what is read are rules that a transmitter's node takes. Left out: where the bytes come from.
+//! transmitter may have. Promised: settings are read exactly as `specs/Settings` says, and else the path of the first value
+//! that is missing or wrong is told; what is read are rules that a transmitter's node takes. Left out: where the bytes come
+//! from.
 #![tactic(auto)]
 
 mod client;

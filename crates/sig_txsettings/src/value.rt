@@ -1,12 +1,12 @@
 //! The default subjects and the interval of verifications.
 
-ghost use Rattle.std.specs.Prelude.{◌≡◌, IfOk};
+ghost use Rattle.std.specs.Prelude.{◌≡◌};
 ghost use Rattle.serde_json.specs.View.{view};
 ghost use Rattle.sig_txsettings.specs.Values as spec;
 
+use sig_json::Value;
 use sig_json::limits::INTERVAL_SECONDS;
-use sig_json::{Memory, Value};
-use sig_settings::SettingKind;
+use sig_settings::{SettingKind, ValueFault, itself};
 use sig_terms::Defaults;
 use std::alloc::Global;
 
@@ -18,11 +18,11 @@ impl SettingKind for DefaultSubjects {
 
     ghost said = { spec.defaults_at };
 
-    fn keep(_alloc: Global, value: &Value) -> Result<Option<Defaults>, Memory> {
+    fn keep(alloc: Global, value: &Value) -> Result<Defaults, ValueFault> {
         match value.as_str() {
-            Some("ALL") => Ok(Some(Defaults::All)),
-            Some("NONE") => Ok(Some(Defaults::None)),
-            _ => Ok(None),
+            Some("ALL") => Ok(Defaults::All),
+            Some("NONE") => Ok(Defaults::None),
+            _ => Err(itself(alloc)),
         }
     }
 }
@@ -35,10 +35,10 @@ impl SettingKind for Interval {
 
     ghost said = { spec.interval_at };
 
-    fn keep(_alloc: Global, value: &Value) -> Result<Option<u64>, Memory> {
+    fn keep(alloc: Global, value: &Value) -> Result<u64, ValueFault> {
         match value.as_u64() {
-            Some(seconds) if seconds <= INTERVAL_SECONDS => Ok(Some(seconds)),
-            _ => Ok(None),
+            Some(seconds) if seconds <= INTERVAL_SECONDS => Ok(seconds),
+            _ => Err(itself(alloc)),
         }
     }
 }

@@ -4,7 +4,7 @@ use Rattle.sig_settings.specs.Lists.{items_kept}
 use Rattle.sig_settings.proofs.Collected.{behind}
 use Rattle.sig_settings.proofs.listing.all_kept.Given as goal
 
-abbrev pub invariant-loop-item : goal.invariant-loop-item
-invariant-loop-item g l =
-    items_kept g.K.SettingKind.said (items_view l.items)
-    ≡ behind l.all.items (items_kept g.K.SettingKind.said (items_view (drop l.item-index l.items)))
+abbrev pub invariant-loop-i : goal.invariant-loop-i
+invariant-loop-i g l =
+    items_kept g.K.SettingKind.said 0 (items_view l.items)
+    ≡ behind l.all.items (items_kept g.K.SettingKind.said l.i (items_view (drop l.i l.items)))
