@@ -166,9 +166,9 @@ def with_keys(keys):
 
 def signed_by_rs256():
     """Settings with public keys (RFC 7518, section 6.3.1), and pushes to a receiver that has one of them."""
-    for wanted, rows in ("refused issuers", BAD), ("ok", GOOD):
-        for why, keys in rows:
-            yield f"The keys of an issuer: {why}.", f"settings {text(with_keys(keys)).decode()}", wanted
+    for why, keys, path in [*BAD, *((why, keys, None) for why, keys in GOOD)]:
+        wanted = "ok" if path is None else f"refused issuers[0].keys{path}"
+        yield f"The keys of an issuer: {why}.", f"settings {text(with_keys(keys)).decode()}", wanted
     issuers = [{"iss": iss, "keys": keys} for iss, keys in KEYS.items()]
     yield "An issuer with a public key, and one with keys of both kinds.", f"settings {text({**SETTINGS, 'issuers': issuers}).decode()}", "ok"
     good, taken = rs256(rs256_header(kid="2026-11"), claims(), FIRST).encode(), response(202)

@@ -30,11 +30,12 @@ def receiver_of(program, room):
 def settings(receiver, room):
     """What settings may have as keys. Where all is right, `fetch` ends since there is no peer."""
     path = os.path.join(room, "keys.json")
-    for keys, ended, member in [(GOOD, "are refused", "poll"), (BAD, "are taken", "issuers")]:
-        for why, of_issuer in keys:
-            receiver.write(path, {**receiver.said, "issuers": [{"iss": IDP, "keys": of_issuer}]})
-            got = receiver.run("fetch", path, receiver.store, "1")
-            need(got == (10, f"signals: settings {member}\n"), f"settings with {why} {ended}: {got}")
+    rows = [(*row, "are refused", "poll") for row in GOOD]
+    rows += [(why, keys, "are taken", f"issuers[0].keys{place}") for why, keys, place in BAD]
+    for why, keys, ended, member in rows:
+        receiver.write(path, {**receiver.said, "issuers": [{"iss": IDP, "keys": keys}]})
+        got = receiver.run("fetch", path, receiver.store, "1")
+        need(got == (10, f"signals: settings {member}\n"), f"settings with {why} {ended}: {got}")
 
 
 def pushes(receiver):
