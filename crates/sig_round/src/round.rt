@@ -56,7 +56,15 @@ fn push_round<R: Wait, K: Taker, S: Side>(
     ensures link { log.new.link ≡ log.old.link }
     ensures now { log.new.now ≡ log.old.now }
 {
-    match push_offered(alloc, rt, taker, rules, stream, side, log) {
+    let end = push_offered(alloc, rt, taker, rules, stream, side, log);
+    outcome_of(end)
+}
+
+// What the round of a stream that ended so is to the others: only memory that runs out ends them too.
+fn outcome_of(end: Result<(), PushFault>) -> Result<(), Memory>
+    ensures { is_err result ≡ handed.is_starved end }
+{
+    match end {
         Err(PushFault::Memory) => Err(Memory),
         _ => Ok(()),
     }

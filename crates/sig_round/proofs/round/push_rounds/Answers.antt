@@ -1,12 +1,13 @@
-use Rattle.std.proofs.Common.{rules, ◌≡◌, ◌<◌, ◌≤◌, ◌∙◌, length, arith}
+use Rattle.std.proofs.Common.{rules, ◌≡◌, ◌<◌, ◌≤◌, ◌∙◌, length, Err, arith}
 use Rattle.sig_round.proofs.MoreRounds.{last_round, next_round, no_more_rounds}
 use Rattle.sig_round.proofs.round.push_rounds.Goals as goal
 
 pub returns-in_err-push_round-clause-rounds : goal.returns-in_err-push_round-clause-rounds
 returns-in_err-push_round-clause-rounds g c =
+    let is : c.from_residual.result ≡ Err c.in_err-push_round.field-0.0 = search rules in
     let h : c.loop-stream.stream-index < length c.args.streams.now = omega arith in
-    no_more_rounds c.args.rules.now _ _ _ _ c.args.streams.now c.loop-stream.stream-index c.stream-item.result _ _ _ _ _ _ _ _ _
-    h c.stream-item.is c.loop-stream.invariant.link c.loop-stream.invariant.now c.loop-stream.invariant.goes_on c.in_err-push_round.ensures.attempted
+    rw is (no_more_rounds c.args.rules.now _ _ _ _ c.args.streams.now c.loop-stream.stream-index c.stream-item.result _ _ _ _ _ _ _ _ _
+    h c.stream-item.is c.loop-stream.invariant.link c.loop-stream.invariant.now c.loop-stream.invariant.goes_on c.in_err-push_round.ensures.attempted)
 
 pub loop-stream-preserved : goal.loop-stream-preserved
 loop-stream-preserved g c =
