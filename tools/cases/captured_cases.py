@@ -20,7 +20,7 @@ def claims_in(token):
 
 
 def lines():
-    yield b"# Tokens of joserfc, an implementation of RFC 7515 of another hand: one issuer has a public key, and the other both kinds."
+    yield b"# Tokens of joserfc and PyJWT, implementations of RFC 7515 of other hands: one issuer has a public key, and the other both kinds."
     issuers = [{"iss": iss, "keys": keys} for iss, keys in KEYS.items()]
     yield b"trust " + dump({"audience": "https://rp.example", "issuers": issuers}).encode()
     yield b"> ok"

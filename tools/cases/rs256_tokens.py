@@ -1,5 +1,5 @@
 #!/usr/bin/env python3
-"""Makes `tools/cases/rs256_tokens.txt` with joserfc, an implementation of RFC 7515 of another hand that signs by OpenSSL.
+"""Makes `tools/cases/rs256_tokens.txt` with joserfc and PyJWT, two implementations of RFC 7515 of other hands, which sign by OpenSSL.
 
     python3 tools/cases/rs256_tokens.py > tools/cases/rs256_tokens.txt
 
@@ -117,8 +117,33 @@ def damaged():
     yield "access_denied iss", "push", signed({"alg": "RS256"}, claims(23, SECOND_IDP), FIRST)
 
 
+def private_key_pem(key):
+    """A private key as PyJWT takes it (RFC 5958)."""
+    from jwt.algorithms import RSAAlgorithm
+    from cryptography.hazmat.primitives import serialization
+
+    made = RSAAlgorithm.from_jwk(json.dumps(members(key)))
+    return made.private_bytes(serialization.Encoding.PEM, serialization.PrivateFormat.PKCS8, serialization.NoEncryption())
+
+
+def by_pyjwt():
+    """The same by PyJWT."""
+    import jwt
+
+    def token(number, iss, key, alg="RS256", **header):
+        return jwt.encode(claims(number, iss), private_key_pem(key), alg, {"typ": "secevent+jwt", **header})
+
+    yield "202", "push", token(24, IDP, FIRST, kid="2026-11")
+    yield "202", "push", token(25, IDP, FIRST)
+    yield "202", "other", token(26, SECOND_IDP, SECOND, kid="2026-12")
+    yield "202", "other", token(27, SECOND_IDP, FIRST)
+    yield "invalid_key kid", "push", token(28, IDP, FIRST, kid="2026-12")
+    yield "invalid_key mac", "push", token(29, IDP, OTHER, kid="2026-11")
+    yield "invalid_key alg", "push", token(30, IDP, FIRST, alg="RS384", kid="2026-11")
+
+
 def lines():
-    for rows in (good, of_no_key, of_other_algorithms, confusions, damaged):
+    for rows in (good, of_no_key, of_other_algorithms, confusions, damaged, by_pyjwt):
         yield from rows()
 
 

@@ -1,5 +1,6 @@
 #!/usr/bin/env python3
-"""Makes the stored run of `sig_rsa_cases` with python3-cryptography, an implementation of RFC 8017 of another hand.
+"""Makes the stored run of `sig_rsa_cases` with python3-cryptography, an implementation of RFC 8017 of another hand, and with
+the commands of OpenSSL.
 
     python3 -B tools/cases/rsa_vectors.py
 
@@ -12,8 +13,11 @@ The keys are drawn by cryptography, which takes no seed, so each call makes othe
 """
 import hashlib
 import os
+import pathlib
 import random
+import subprocess
 import sys
+import tempfile
 
 from cryptography.exceptions import InvalidSignature
 from cryptography.hazmat.primitives import hashes
@@ -25,6 +29,7 @@ KEYS = [
     (2048, 65537), (2048, 3), (2048, 65537), (2048, 3), (2112, 65537), (3072, 65537), (3072, 3), (4096, 65537), (4096, 3),
     (2049, 65537), (2049, 3), (2055, 65537), (2055, 3), (3000, 65537), (3000, 3), (4095, 65537), (4095, 3),
 ]
+OPENSSL_KEYS = [(2048, 65537), (2048, 3), (3000, 65537), (3072, 3), (4096, 65537), (4096, 3)]
 INFO = bytes.fromhex("3031300d060960864801650304020105000420")
 INFO_WITHOUT_NULL = bytes.fromhex("302f300b0609608648016503040201" + "0420")
 INFO_OF_SHA1 = bytes.fromhex("3021300906052b0e03021a05000414")
@@ -164,7 +169,41 @@ def refused_keys(signer):
     yield b"\1" + b"\0" * 511 + b"\1", exponent
 
 
+def openssl(room, *words):
+    return subprocess.run(["openssl", *words], cwd=room, capture_output=True, check=True).stdout
+
+
+def by_openssl(room, bits, exponent):
+    """A key, signatures and what is near to them by the commands of OpenSSL, each line judged by its own verification too."""
+    openssl(room, "genpkey", "-algorithm", "RSA", "-out", "key", "-pkeyopt", f"rsa_keygen_bits:{bits}", "-pkeyopt", f"rsa_keygen_pubexp:{exponent}")
+    openssl(room, "pkey", "-in", "key", "-pubout", "-out", "public")
+    modulus = bytes.fromhex(openssl(room, "rsa", "-in", "key", "-noout", "-modulus").decode().strip().partition("=")[2])
+    message = DRAWN.randbytes(100)
+    signatures = [openssl_signed(room, message, hash, padding) for hash, padding in (("sha256", "pkcs1"), ("sha1", "pkcs1"), ("sha512", "pkcs1"), ("sha256", "pss"))]
+    signatures.append(signatures[0][:-1] + bytes([signatures[0][-1] ^ 1]))
+    for of, signature in [(message, it) for it in signatures] + [(message[1:], signatures[0])]:
+        expected = "yes" if of == message and signature == signatures[0] else "no"
+        if openssl_verifies(room, of, signature) != (expected == "yes"):
+            sys.exit(f"rsa_vectors: OpenSSL doesn't answer {expected}")
+        yield expected, (modulus, exponent, of, signature)
+
+
+def openssl_signed(room, message, hash, padding):
+    pathlib.Path(room, "message").write_bytes(message)
+    return openssl(room, "dgst", f"-{hash}", "-sign", "key", "-sigopt", f"rsa_padding_mode:{padding}", "message")
+
+
+def openssl_verifies(room, message, signature):
+    pathlib.Path(room, "message").write_bytes(message)
+    pathlib.Path(room, "signature").write_bytes(signature)
+    words = ["openssl", "dgst", "-sha256", "-verify", "public", "-signature", "signature", "message"]
+    return subprocess.run(words, cwd=room, capture_output=True, check=False).returncode == 0
+
+
 def lines():
+    with tempfile.TemporaryDirectory() as room:
+        for bits, exponent in OPENSSL_KEYS:
+            yield from by_openssl(room, bits, exponent)
     for bits, exponent in KEYS:
         signer = Signer(bits, exponent)
         for expected, message, signature in rows(signer):
