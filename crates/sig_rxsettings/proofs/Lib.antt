@@ -1,2 +1,3 @@
+pub mod PeerLemmas
 pub mod Gateways
 pub mod SettingSteps

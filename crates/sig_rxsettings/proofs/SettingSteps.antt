@@ -1,5 +1,5 @@
 -- The settings of a receiver: what all members give, and what a wrong gateway does.
-use Rattle.std.proofs.Common.{◌≡◌, ℕ, List, Option, refl, inl, inr}
+use Rattle.std.proofs.Common.{◌≡◌, ℕ, List, Option, refl, inl, inr, subst}
 use Rattle.std.specs.Prelude.{Result, Ok, Err, codes, ◌⊎◌}
 use Rattle.serde_json.specs.Data.{Data}
 use Rattle.sig_outside.specs.declared.place.Place.{Place}
@@ -14,6 +14,10 @@ use Rattle.sig_rxsettings.specs.Issuers.{issuers_at}
 use Rattle.sig_rxsettings.specs.Peers.{peer_in, with_gateway}
 use Rattle.sig_rxsettings.specs.Principals.{principals_in}
 use Rattle.sig_rxsettings.specs.Settings.{rx_settings_in}
+
+-- the peer that was read over a list's items, as over the list
+pub peer_read : (reader : List ℕ) (principals items : List Principal) (d : Data) (peer : Option Peer) → items ≡ principals → peer_in reader items d ≡ Ok peer → peer_in reader principals d ≡ Ok peer
+peer_read reader principals items d peer is h = subst (λ (ps : List Principal). peer_in reader ps d ≡ Ok peer) is h
 
 -- the members before the gateway
 pub record Begun (d : Data) (audience : List ℕ) (listen : Place) (reader : List ℕ) (issuers : List Issuer) (principals : List Principal) (peer : Option Peer) : Type 0 where
