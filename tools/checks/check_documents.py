@@ -16,6 +16,7 @@ DOCUMENTS = [
     "docs/ARCHITECTURE.md",
     "docs/DECISIONS.md",
     "docs/FORMATS.md",
+    "docs/OPERATING.md",
     "docs/PROMISES.md",
     "docs/WRONG_BODIES.md",
     "examples/README.md",
