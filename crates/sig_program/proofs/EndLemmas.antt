@@ -14,7 +14,9 @@ use Rattle.sig_schedules.proofs.ReplayLemmas.{full-number}
 use Rattle.sig_command.specs.declared.lines_end.LinesEnd.{LinesEnd}
 use Rattle.sig_command.specs.declared.lines_end.LinesEnd.TheVariants.{Done, Stopped, Input, Output, Memory}
 use Rattle.sig_command.specs.declared.stop.Stop.TheVariants as stops
+use Rattle.sig_fold.specs.Fold.{fold_telling, trust_of}
 use Rattle.sig_set.specs.declared.trust.Issuer.{Issuer}
+use Rattle.sig_set.specs.declared.trust.Trust.{Trust}
 use Rattle.sig_program.specs.declared.command.Command.{Command}
 use Rattle.sig_program.specs.declared.command.Command.TheVariants.{Fold, Replay}
 use Rattle.sig_program.specs.declared.ending.Ending.{Ending}
@@ -110,6 +112,14 @@ pub fold-wrote : (c : Command) (issuer : Issuer) (aud : List ℕ) (told : Option
     → IfSome told (λ input. Wrote (telling_of (Fold issuer aud)) input a b e) → IfSome told (λ input. Wrote (telling_of c) input a b e)
 fold-wrote c issuer aud told a b e is h = subst (λ k. IfSome told (λ input. Wrote (telling_of k) input a b e)) is h
 
+-- what a folder with this trust and this issuer's name wrote
+pub folder-wrote : (issuer : Issuer) (aud : List ℕ) (trust : Trust) (name : List ℕ) (told : Option (List ℕ)) (a b : Moment) (e : LinesEnd)
+    → trust ≡ trust_of issuer aud → name ≡ issuer.iss → IfSome told (λ input. Wrote (fold_telling trust name) input a b e)
+    → IfSome told (λ input. Wrote (telling_of (Fold issuer aud)) input a b e)
+folder-wrote issuer aud trust name told a b e trusts named h =
+    subst (λ n. IfSome told (λ input. Wrote (fold_telling (trust_of issuer aud) n) input a b e)) named
+    (subst (λ t. IfSome told (λ input. Wrote (fold_telling t name) input a b e)) trusts h)
+
 -- what the command `replay` wrote
 pub replay-wrote : (c : Command) (told : Option (List ℕ)) (a b : Moment) (e : LinesEnd) → Replay ≡ c
     → IfSome told (λ input. Wrote (telling_of Replay) input a b e) → IfSome told (λ input. Wrote (telling_of c) input a b e)
@@ -203,7 +213,7 @@ read-within input read (Some rest) h = omega (arith, ap length h, length-append 
 
 -- a number by which lines stop a command is 2^62 at least
 full-late : (c : Command) (n : ℕ) → CanStop (telling_of c) (stops.Full n) → LAST_NUMBER ≤ n
-full-late (Fold iss aud key) n can = absurd (subst (λ o. IfSome o (λ stop. ⊥)) can.1 tt)
+full-late (Fold issuer aud) n can = absurd (subst (λ o. IfSome o (λ stop. ⊥)) can.1 tt)
 full-late Replay n can = let is : LAST_NUMBER < n = full-number can.0 n can.1 in omega (arith, is)
 
 full-least : (c : Command) (n : ℕ) → (n ≡ LAST_NUMBER) ⊎ CanStop (telling_of c) (stops.Full n) → LAST_NUMBER ≤ n

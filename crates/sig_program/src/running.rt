@@ -12,6 +12,7 @@ ghost use Rattle.sig_program.specs.Command as spec;
 ghost use Rattle.sig_program.specs.declared.command.Command.{Command};
 ghost use Rattle.sig_program.specs.Ends.{Cause, Finished, RanWith, Spoke, ending_at, status_of, telling_of};
 ghost use Rattle.sig_fold.specs.Fold.{trust_of};
+ghost use Rattle.sig_receiver.specs.Receiver.{StandsFor};
 ghost use Rattle.sig_set.specs.declared.trust.Issuer.{Issuer};
 
 use crate::command::{Command, command_of};
@@ -157,14 +158,24 @@ fn run_fold<I: Source, O: Sink>(
     ensures text { IfSome (I.left input.old) (λ told. Wrote (telling_of (Command.Fold issuer aud)) told (moment (I.left input.old) (I.faults input.old) (O.written output.old) (O.faults output.old) (O.stalls output.old))
         (moment (I.left input.new) (I.faults input.new) (O.written output.new) (O.faults output.new) (O.stalls output.new)) result) }
 {
-    let Ok(name) = issuer.iss.copy(alloc) else {
-        return LinesEnd::Memory;
-    };
-    let Ok(trust) = trust_from(alloc, issuer, aud) else {
-        return LinesEnd::Memory;
-    };
-    let mut folder = Folder::new(alloc, trust, name);
-    tell_all(alloc, &mut folder, input, output)
+    match folder_of(alloc, issuer, aud) {
+        Ok(folder) => {
+            let mut folder = folder;
+            tell_all(alloc, &mut folder, input, output)
+        }
+        Err(Memory) => LinesEnd::Memory,
+    }
+}
+
+// What judges the tokens of an issuer for this audience, and has heard none yet.
+fn folder_of(alloc: Global, issuer: Issuer, aud: Text) -> Result<Folder, Memory>
+    ensures trust { IfOk result (λ folder. folder.trust ≡ trust_of issuer aud) }
+    ensures named { IfOk result (λ folder. folder.issuer ≡ issuer.iss) }
+    ensures new { IfOk result (λ folder. StandsFor folder.receiver []) }
+{
+    let name = issuer.iss.copy(alloc)?;
+    let trust = trust_from(alloc, issuer, aud)?;
+    Ok(Folder::new(alloc, trust, name))
 }
 
 // The trust in one issuer, prepared for all tokens of the run.
