@@ -3,7 +3,8 @@
 # text, or with status 9 after a prefix of it and the last line of that status.
 #
 # The built program gets its memory by the C library's `malloc` and `realloc` alone. A small library that is loaded
-# before that one counts these calls, and refuses those of the given numbers: each alone, and each with all after it.
+# before that one counts these calls, in a file since the program runs nothing of it at its end, and refuses those of the
+# given numbers: each alone, and each with all after it.
 set -eu
 cd "$(dirname "$0")/../.."
 # Builds the program where that has to be.
@@ -15,14 +16,22 @@ trap 'rm -rf "$folder"' EXIT
 cc -shared -fPIC -o "$folder/refusing.so" -x c - <<'C'
 #define _GNU_SOURCE
 #include <dlfcn.h>
-#include <stdio.h>
+#include <fcntl.h>
 #include <stdlib.h>
+#include <sys/mman.h>
 
-static long calls;
+static long *calls;
+
+__attribute__((constructor)) static void begin(void) {
+    int file = open(getenv("COUNT"), O_RDWR);
+    void *place = mmap(NULL, sizeof(long), PROT_READ | PROT_WRITE, MAP_SHARED, file, 0);
+    calls = place == MAP_FAILED ? NULL : place;
+}
 
 static int is_refused(void) {
-    calls++;
-    return calls >= atol(getenv("FIRST")) && calls <= atol(getenv("LAST"));
+    if (!calls) return 0;
+    ++*calls;
+    return *calls >= atol(getenv("FIRST")) && *calls <= atol(getenv("LAST"));
 }
 
 void *malloc(size_t size) {
@@ -34,13 +43,12 @@ void *realloc(void *place, size_t size) {
     void *(*given)(void *, size_t) = dlsym(RTLD_NEXT, "realloc");
     return is_refused() ? NULL : given(place, size);
 }
-
-__attribute__((destructor)) static void tell(void) { dprintf(2, "%ld\n", calls); }
 C
 
-# Runs the program with the calls from FIRST to LAST refused, and prints how many calls it made.
+# Runs the program with the calls from FIRST to LAST refused.
 run_refused() { # FIRST LAST INPUT OUTPUT WORDS..
-    FIRST=$1 LAST=$2 LD_PRELOAD=$folder/refusing.so "$program" "${@:5}" <"$3" 2>&1 >"$4"
+    head -c 8 /dev/zero >"$folder/count"
+    COUNT=$folder/count FIRST=$1 LAST=$2 LD_PRELOAD=$folder/refusing.so "$program" "${@:5}" <"$3" >"$4"
 }
 
 ends_well() { # STATUS
@@ -57,11 +65,13 @@ ends_well() { # STATUS
 check_run() { # INPUT WORDS..
     local calls call last status
     local -A ended=([0]=0 [9]=0)
-    calls=$(run_refused 0 0 "$1" "$folder/whole" "${@:2}")
+    run_refused 0 0 "$1" "$folder/whole" "${@:2}"
+    calls=$(od -An -t d8 "$folder/count" | tr -d ' ')
+    [ "$calls" -gt 0 ] || { echo "$1: no allocation was counted"; exit 1; }
     for ((call = 1; call <= calls; call++)); do
         for last in "$call" "$calls"; do
             status=0
-            run_refused "$call" "$last" "$1" "$folder/made" "${@:2}" >/dev/null || status=$?
+            run_refused "$call" "$last" "$1" "$folder/made" "${@:2}" || status=$?
             if ! ends_well "$status"; then
                 echo "$1: calls $call to $last refused: status $status"
                 cat "$folder/made"
