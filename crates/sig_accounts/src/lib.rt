@@ -1,7 +1,7 @@
 //! Streams as a transmitter holds them in memory, with what each owes, and what it keeps of publications and counts.
 //!
-//! It stands on `sig_history` for what streams and facts are. An `Account` is seen as its stream, what it owes in small, and the
-//! room that it holds; `specs/Owings` says what a fact leaves of it, and which tokens its debts are.
+//! It stands on `sig_history` for what streams and facts are. An `Account` is seen as its stream, what it owes in small, and
+//! the room that it holds; `specs/Owings` says what a fact leaves of it, and which tokens its debts are.
 //!
 //! Promised: each change of a stream is that of the history; it keeps its debts in order; a change takes no memory where its
 //! room was reserved, and reserving changes no stream; streams are the same exactly where their tokens say the same. Tokens

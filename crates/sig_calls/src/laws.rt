@@ -15,8 +15,8 @@ pub fn number_comes_exactly()
     ensures { NumberComesExactly }
 {}
 
-/// Under proper rules and over what a sound history came to, what the answer to a proper call says of a stream's configuration or
-/// status is so after the call (Shared Signals Framework 1.0, sections 8.1.1 and 8.1.2).
+/// Under proper rules and over what a sound history came to, what the answer to a proper call says of a stream's
+/// configuration or status is so after the call (Shared Signals Framework 1.0, sections 8.1.1 and 8.1.2).
 pub fn answers_are_true()
     ensures { AnswersAreTrue }
 {}

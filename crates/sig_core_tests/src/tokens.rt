@@ -1,4 +1,5 @@
-//! Tokens by an independent signer (`tools/cases/sign_tokens.py`, by Python's hmac, base64 and json), and whom they are trusted of.
+//! Tokens by an independent signer (`tools/cases/sign_tokens.py`, by Python's hmac, base64 and json), and whom they are
+//! trusted of.
 
 use sig_json::{Bytes, Items, Memory, Text};
 use sig_jws::Key;

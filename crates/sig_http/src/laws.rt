@@ -16,16 +16,17 @@ pub fn bytes_decide_one_response()
 /// A request that `write_request` writes is read back, whatever bytes follow it, by the law above as nothing else.
 ///
 /// That holds of each request whose method is a token, whose target is one with no `?` in its path and no fragment and is
-/// not in the absolute form, whose values have no control byte but the tab, and whose head and body are within the limits. Its bearer is read of the whole value that was
-/// written, and `close` is yes, since a request that is written asks for closing.
+/// not in the absolute form, whose values have no control byte but the tab, and whose head and body are within the limits.
+/// Its bearer is read of the whole value that was written, and `close` is yes, since a request that is written asks for
+/// closing.
 pub fn a_written_request_is_read_back()
     ensures { ReadsBackRequest }
 {}
 
 /// The same of a response and `write_response`.
 ///
-/// That holds of each response of a status from 100 to 999, with no body where that is 1xx, 204 or 304, whose fields are none of
-/// `connection`, `content-length` and `transfer-encoding`, and whose fields with those that the writer adds, head and body
+/// That holds of each response of a status from 100 to 999, with no body where that is 1xx, 204 or 304, whose fields are none
+/// of `connection`, `content-length` and `transfer-encoding`, and whose fields with those that the writer adds, head and body
 /// are within the limits. The fields aren't kept by a reader.
 pub fn a_written_response_is_read_back()
     ensures { ReadsBackResponse }

@@ -20,8 +20,9 @@ use std::alloc::Global;
 ///
 /// `Got::End` comes exactly where the source ended before the first byte of a request. A fault is the one that the shortest
 /// prefix of the bytes decides, and of those that one prefix decides it is the first in the order of `HttpFault`'s head
-/// faults: `HeadLong`, `Head`, `Host`, `Expect`, `Coding`, `Length`, `BodyLong`. `Cut` comes where the source ends before any is
-/// decided, and `Link` exactly where one of its calls failed: the count of its faults is raised by one, and stays otherwise. After a fault the source isn't to be used any more.
+/// faults: `HeadLong`, `Head`, `Host`, `Expect`, `Coding`, `Length`, `BodyLong`. `Cut` comes where the source ends before any
+/// is decided, and `Link` exactly where one of its calls failed: the count of its faults is raised by one, and stays
+/// otherwise. After a fault the source isn't to be used any more.
 pub fn read_request<S: Source>(
     alloc: Global,
     source: &mut S,

@@ -14,7 +14,8 @@ use std::alloc::Global;
 ///
 /// The request's bearer is the whole value of the field `authorization`, and the request asks for closing whatever its
 /// `close` says. `Link` comes exactly where a call of the sink failed, and `Stuck` exactly where one took nothing of a piece
-/// that isn't empty: the one count is raised by one, and the other stays. After either a prefix of the request is written, and nothing where memory ran out.
+/// that isn't empty: the one count is raised by one, and the other stays. After either a prefix of the request is written,
+/// and nothing where memory ran out.
 pub fn write_request<O: Sink>(
     alloc: Global,
     sink: &mut O,

@@ -2,7 +2,8 @@
 //!
 //! It stands on `sig_json` for texts, and on `indexmap` for one look-up a pair. Promised: a pair is found exactly where it
 //! is there, without memory; it is added exactly where it isn't, and stands last; where room was made for it, one that is
-//! new is put last without memory; the list is what its calls made of it, in order. Left out: what a token is, which `sig_set` says.
+//! new is put last without memory; the list is what its calls made of it, in order. Left out: what a token is, which
+//! `sig_set` says.
 #![tactic(auto)]
 
 mod pair;

@@ -13,8 +13,8 @@
 //! the gate alone.
 //!
 //! A `Store` is the journal as a node holds it, with the moment at which it broke. A node changes its state by records alone: a
-//! record stands in the journal before it has its effect. So the state that a store stands for is found by taking its records up
-//! in order (`specs/Taking`), whatever the state is; each node says by a `Taking` how it takes one up.
+//! record stands in the journal before it has its effect. So the state that a store stands for is found by taking its records
+//! up in order (`specs/Taking`), whatever the state is; each node says by a `Taking` how it takes one up.
 //!
 //!     state before --record is added--> any crash: state before or after --Ok--> any crash: state after
 //!

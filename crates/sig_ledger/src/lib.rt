@@ -6,8 +6,9 @@
 //! `indexmap`.
 //!
 //! Promised: what a commit leaves is what the history comes to with one more fact; reserving changes no book; the books stay
-//! whole: streams once and in order, owed numbers rising; which facts may follow is told exactly; a copy has the same books, and
-//! ledgers are the same exactly where they come to the same. Left out: how calls are answered, which the crates above say.
+//! whole: streams once and in order, owed numbers rising; which facts may follow is told exactly; a copy has the same books,
+//! and ledgers are the same exactly where they come to the same. Left out: how calls are answered, which the crates above
+//! say.
 #![tactic(auto)]
 
 mod ledger;

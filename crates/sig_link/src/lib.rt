@@ -1,9 +1,9 @@
-//! One link of a server, whichever end it is: its requests in order, the turns that they make, their responses, and what follows
-//! them (RFC 9112, section 9.3).
+//! One link of a server, whichever end it is: its requests in order, the turns that they make, their responses, and what
+//! follows them (RFC 9112, section 9.3).
 //!
-//! It stands on `sig_http` for messages, on `sig_serving` for what is written whatever is asked, and on `sig_links` for the link
-//! and the side beside it. What the end is, a transmitter or a receiver, is an `End`: which call a request makes, its turn, the
-//! response, and what follows.
+//! It stands on `sig_http` for messages, on `sig_serving` for what is written whatever is asked, and on `sig_links` for the
+//! link and the side beside it. What the end is, a transmitter or a receiver, is an `End`: which call a request makes, its
+//! turn, the response, and what follows.
 //!
 //! ```text
 //!     link -> request -> call or refusal -> turn -> response -> link, and then what follows the turn

@@ -9,8 +9,9 @@ use sig_outside::{Sink, Source};
 pub trait Link: Source + Sink {
     ghost dialled: { Self → Option (List ℕ × ℕ) };
 
-    /// Ends a link that was served: nothing more will be written to it, and some of what its peer still sends is passed over, so
-    /// that the last of what was written isn't lost (RFC 9112, section 9.6). It may wait for the peer, within limits of its own.
+    /// Ends a link that was served: nothing more will be written to it, and some of what its peer still sends is passed over,
+    /// so that the last of what was written isn't lost (RFC 9112, section 9.6). It may wait for the peer, within limits of
+    /// its own.
     fn finish(&mut self)
         ensures told { (Self.left self.new ≡ Self.left self.old) × (Self.written self.new ≡ Self.written self.old) }
         ensures faults { (Self.Source.faults self.new ≡ Self.Source.faults self.old) × (Self.Sink.faults self.new ≡ Self.Sink.faults self.old) }

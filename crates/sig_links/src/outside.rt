@@ -80,8 +80,8 @@ pub trait Outside {
         ensures network { network_faults self.new ≡ network_faults self.old }
         ensures cause { HasCause (store_faults self.old) (store_faults self.new) result };
 
-    /// Takes back the store with this name, and counts its faults as those of the stores. Where that store was out, `held` tells its
-    /// bytes as the store does.
+    /// Takes back the store with this name, and counts its faults as those of the stores. Where that store was out, `held`
+    /// tells its bytes as the store does.
     fn put_back(&mut self, name: &str, disk: Self::D)
         ensures held { IsTrue (lent self.old name.now) → held self.new name.now ≡ stored (Self.D.told disk) (Self.D.seen disk) }
         ensures others { KeepsOthers name.now (held self.old) (held self.new) × KeepsOthers name.now (lent self.old) (lent self.new) }

@@ -7,11 +7,11 @@
 //! ```
 //!
 //! It stands on `sig_links` for the outside, on `sig_settings` for the faults of settings, on `sig_journal` for why no store is
-//! loaded, and on `sig_watch` for what is served. What is loaded, be it a transmitter or a receiver, is an instance of `Stored`,
-//! which says what its store stands for. Promised: bytes that are told are read whole up to their limit; where nothing was read
-//! or opened, the outside counted a fault of that kind, or memory ran out; the node that is loaded stands for what its files
-//! told; and what was opened is given back on every path. Left out: what settings say, and the door, which each server has of
-//! its own; `specs/` has what both say of their watches.
+//! loaded, and on `sig_watch` for what is served. What is loaded, be it a transmitter or a receiver, is an instance of
+//! `Stored`, which says what its store stands for. Promised: bytes that are told are read whole up to their limit; where
+//! nothing was read or opened, the outside counted a fault of that kind, or memory ran out; the node that is loaded stands
+//! for what its files told; and what was opened is given back on every path. Left out: what settings say, and the door, which
+//! each server has of its own; `specs/` has what both say of their watches.
 #![tactic(auto)]
 
 mod ending;

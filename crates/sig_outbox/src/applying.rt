@@ -17,7 +17,8 @@ use thiserror::Error;
 /// Why a fact wasn't taken in.
 #[derive(Clone, Copy, Debug, PartialEq, Eq, Error)]
 pub enum ApplyFault {
-    /// It doesn't fit what the history came to: a stream or token that it names isn't there, or what it brings may not be brought.
+    /// It doesn't fit what the history came to: a stream or token that it names isn't there, or what it brings may not be
+    /// brought.
     #[error("the fact doesn't fit its history")]
     Bad,
     /// Out of memory.

@@ -50,8 +50,9 @@ impl Lines {
     /// The next line of the source, without the LF that ends it and one CR before that; the last line may lack its LF.
     /// It has at most `room` bytes, and is `Long` exactly where it has more.
     ///
-    /// `Failed` comes exactly where the source failed, which raises its count of faults by one, and from then on. `Endless` comes exactly where a further byte is wanted
-    /// and `LAST_NUMBER` bytes were taken. `Memory` comes out of memory, and from then on.
+    /// `Failed` comes exactly where the source failed, which raises its count of faults by one, and from then on. `Endless`
+    /// comes exactly where a further byte is wanted and `LAST_NUMBER` bytes were taken. `Memory` comes out of memory, and
+    /// from then on.
     pub fn next<S: Source>(&mut self, source: &mut S, room: usize) -> Result<Line, LineFault>
         ensures line { IfOk result (λ line. IfSome (S.left source.old) (λ left. Gives room line self.old self.new left (S.left source.new))) }
         ensures numbers { IfOk result (λ line. (self.new.number ≡ number_after self.old.number line) × (self.new.number ≤ LAST_NUMBER)) }

@@ -16,9 +16,8 @@ pub trait Source {
 
     ghost faults: { Self → ℕ };
 
-    /// Takes bytes into the buffer, from its first place on, and answers how many: 0 into a buffer with room only at the end of the
-    /// input. The count of faults
-    /// stays where a call doesn't fail. `Failed` raises it by one, and takes nothing.
+    /// Takes bytes into the buffer, from its first place on, and answers how many: 0 into a buffer with room only at the end
+    /// of the input. The count of faults stays where a call doesn't fail. `Failed` raises it by one, and takes nothing.
     fn take(&mut self, buf: &mut [u8]) -> Result<usize, Failed>
         ensures bound { ReadsAtMost result buf.new }
         ensures bytes { ReadConsumes (left self.old) (left self.new) result buf.new }

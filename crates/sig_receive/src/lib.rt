@@ -1,5 +1,6 @@
 //! A receiver's commands over what the outside hands out: `receive`, which serves its store watch after watch, the links of
-//! each side by side (RFC 8935, section 2), and `fetch`, which polls the transmitter that its settings name (RFC 8936, section 2).
+//! each side by side (RFC 8935, section 2), and `fetch`, which polls the transmitter that its settings name (RFC 8936,
+//! section 2).
 //!
 //! ```text
 //!     <settings> -> bytes -> rules, place -> given back

@@ -28,8 +28,8 @@ struct Watched<D: Disk> {
     end: Option<ServeEnd>,
 }
 
-/// Runs so many watches, or fewer: it goes on after none that reports a shut door, nor after one that fails or in which something
-/// differs.
+/// Runs so many watches, or fewer: it goes on after none that reports a shut door, nor after one that fails or in which
+/// something differs.
 pub fn run_watches<R: Threads + Wait + Sync, D: Disk + Send, A: Door>(
     alloc: Global,
     rt: &R,

@@ -9,9 +9,10 @@
 //!     signature -> number below the modulus -> its power /
 //!
 //! Promised: a key is made exactly where modulus and exponent are one (`specs/Keys`); `verifies` says yes exactly where
-//! RFC 8017, section 8.2.2, finds the signature valid: its length, its number below the modulus, and every byte of the
-//! encoded message (`specs/Signatures`, `laws`). Left out: secret keys, so nothing here signs; that a modulus is the
-//! product of two primes; that a signature cannot be forged; and which key is to be taken, which the caller decides.
+//! RFC 8017, section 8.2.2, finds the signature valid: its length, its number below the modulus, and its power, which is
+//! the number of the encoded message (`specs/Signatures`, `laws`). Left out: secret keys, so nothing here signs; that a
+//! modulus is the product of two primes; that a signature cannot be forged; and which key is to be taken, which the caller
+//! decides.
 #![tactic(auto)]
 
 mod encoding;

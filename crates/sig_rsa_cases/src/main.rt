@@ -6,8 +6,8 @@
 //! ```
 //!
 //! The exponent is a decimal number, the others are bytes in hexadecimal, `-` for none. It is no part of the product: it makes
-//! a key and its verification reachable by lines, so that signatures of another hand are data. The status is 0 at the end of the
-//! cases, 1 at a line that is no case, 3 and 4 where input or output fail, and 9 where memory ends.
+//! a key and its verification reachable by lines, so that signatures of another hand are data. The status is 0 at the end of
+//! the cases, 1 at a line that is no case, 3 and 4 where input or output fail, and 9 where memory ends.
 #![tactic(auto)]
 
 use hex::FromHexError;

@@ -1,8 +1,8 @@
-//! A receiver, as the links that it serves see it, and as a watch serves it: its calls, and their turns and responses (RFC 8935,
-//! section 2).
+//! A receiver, as the links that it serves see it, and as a watch serves it: its calls, and their turns and responses (RFC
+//! 8935, section 2).
 //!
-//! It stands on `sig_link` for how a link is served, on `sig_rxroutes` for which call a request makes and how an answer is told,
-//! on `sig_rxnode` for the taker of turns, and on `sig_watch` for watches.
+//! It stands on `sig_link` for how a link is served, on `sig_rxroutes` for which call a request makes and how an answer is
+//! told, on `sig_rxnode` for the taker of turns, and on `sig_watch` for watches.
 //!
 //! ```text
 //!     request -> call or refusal -> turn -> response

@@ -14,8 +14,8 @@ use sig_settings::{
 };
 use std::alloc::Global;
 
-/// The principals of settings with this reader. What is missing or wrong in them is told by its path: `principals` where they are
-/// no list of at most 64, and a principal's bearer where it is the reader's or that of a principal before it.
+/// The principals of settings with this reader. What is missing or wrong in them is told by its path: `principals` where they
+/// are no list of at most 64, and a principal's bearer where it is the reader's or that of a principal before it.
 #[tactic(auto, unfolding(crate::specs::Principals::principals_in))]
 pub fn principals_in(
     alloc: Global,

@@ -9,11 +9,11 @@
 //! ```
 //!
 //! It stands on `sig_program`, which does what needs no files, on `sig_init`, which makes an empty store, on `sig_serve`, which
-//! serves a transmitter's store, on `sig_receive`, which serves a receiver's and fetches for it, and on `sig_system` for the system
-//! as the outside. Promised by `run`: each command ends by its cause, and a last line says so, or nothing is printed; `serve`
-//! puts back the store that it opened with the facts of its links' turns, `receive` and `fetch` with the token texts of theirs,
-//! and `init` the files of its store; and no other file is touched. `run_plain` does the same for all words but those of `serve`
-//! and `receive`, and always returns.
+//! serves a transmitter's store, on `sig_receive`, which serves a receiver's and fetches for it, and on `sig_system` for the
+//! system as the outside. Promised by `run`: each command ends by its cause, and a last line says so, or nothing is printed;
+//! `serve` puts back the store that it opened with the facts of its links' turns, `receive` and `fetch` with the token texts
+//! of theirs, and `init` the files of its store; and no other file is touched. `run_plain` does the same for all words but
+//! those of `serve` and `receive`, and always returns.
 //!
 //! Left out: a crash while a store is made, of which nothing is said; that links are served at the same time, which no contract
 //! can say; and that a link comes.

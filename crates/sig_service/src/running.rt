@@ -72,8 +72,8 @@ pub fn run<R: Threads + Wait + Sync, X: Outside, I: Source, O: Sink>(
         (output_state (O.written output.old) (O.faults output.old) (O.stalls output.old)) (output_state (O.written output.new) (O.faults output.new) (O.stalls output.new))
         → (result ≡ 0) ⊎ (result ≡ 8) ⊎ (result ≡ 9) }
 
-    // Without faults, settings that are taken and name a transmitter, and a store that stands for a state: a fetch is done, or memory
-    // ran out, the journal is full, or the transmitter gave no page.
+    // Without faults, settings that are taken and name a transmitter, and a store that stands for a state: a fetch is done,
+    // or memory ran out, the journal is full, or the transmitter gave no page.
     ensures fetched { (ask : spec.StoreAsked) → spec.fetch_of (map (λ word. string_bytes word) words.now) ≡ Some ask
         → IsFetchable ask (outside_state X.settings_of X.held X.doors X.doors_back X.sides X.sides_back X.settings_faults X.store_faults X.network_faults outside.old)
         → MeetsNoFault (outside_state X.settings_of X.held X.doors X.doors_back X.sides X.sides_back X.settings_faults X.store_faults X.network_faults outside.old)
@@ -118,9 +118,9 @@ pub fn run<R: Threads + Wait + Sync, X: Outside, I: Source, O: Sink>(
 /// For the words of `init` it is 0 where the store is made, 5 where a file couldn't be opened or its disk failed, 9 out of
 /// memory, 12 where a file isn't empty, and 4 where the output stopped at the last line. For those of `fetch` it is 0 where as
 /// many rounds were made as were asked for or the last page lists no token, 3, 10, 5 and 6 as of a server, 7 where a dial or a
-/// link failed, 9 out of memory, 11 where the journal would end past 2^62, 13 where the transmitter gave no page, and 4 where the
-/// output stopped. For all other words it is the one of `sig_program::run`, to which `serve` and `receive` are no commands, and
-/// nothing outside is touched.
+/// link failed, 9 out of memory, 11 where the journal would end past 2^62, 13 where the transmitter gave no page, and 4 where
+/// the output stopped. For all other words it is the one of `sig_program::run`, to which `serve` and `receive` are no
+/// commands, and nothing outside is touched.
 pub fn run_plain<X: Outside, I: Source, O: Sink>(
     alloc: Global,
     words: &[String],
@@ -145,8 +145,8 @@ pub fn run_plain<X: Outside, I: Source, O: Sink>(
     // The input is not even asked where no command reads it.
     ensures unasked { command_of (map (λ word. string_bytes word) words.now) ≡ None → input.new ≡ input.old }
 
-    // Without faults, settings that are taken and name a transmitter, and a store that stands for a state: a fetch is done, or memory
-    // ran out, the journal is full, or the transmitter gave no page.
+    // Without faults, settings that are taken and name a transmitter, and a store that stands for a state: a fetch is done,
+    // or memory ran out, the journal is full, or the transmitter gave no page.
     ensures fetched { (ask : spec.StoreAsked) → spec.fetch_of (map (λ word. string_bytes word) words.now) ≡ Some ask
         → IsFetchable ask (outside_state X.settings_of X.held X.doors X.doors_back X.sides X.sides_back X.settings_faults X.store_faults X.network_faults outside.old)
         → MeetsNoFault (outside_state X.settings_of X.held X.doors X.doors_back X.sides X.sides_back X.settings_faults X.store_faults X.network_faults outside.old)

@@ -51,7 +51,8 @@ pub fn send<L: Link>(alloc: Global, stream: &mut L, response: &Response) -> Resu
     }
 }
 
-/// Writes the response to a request that can't be read, where there is one, as far as the link takes it; or that memory ran out.
+/// Writes the response to a request that can't be read, where there is one, as far as the link takes it; or that memory ran
+/// out.
 pub fn refuse<L: Link>(alloc: Global, stream: &mut L, fault: HttpFault) -> LinkEnd
     ensures refusal { IsRefusal fault result (seen L.left L.written L.Source.faults L.Sink.faults stream.old) (seen L.left L.written L.Source.faults L.Sink.faults stream.new) }
     ensures left { L.left stream.new ≡ L.left stream.old }

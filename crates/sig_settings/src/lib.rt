@@ -6,8 +6,8 @@
 //! be: a text, a bearer token, a place, a key, or a list.
 //!
 //! Promised: a member is read as its kind's definition says (`specs/Members`), and else the path of what is wrong in it is the
-//! one that is told (`specs/Paths`); a text spells a place exactly where it is a host, `:` and a port (`laws`). Left out: which members a transmitter and a receiver
-//! have, which `sig_txsettings` and `sig_rxsettings` say.
+//! one that is told (`specs/Paths`); a text spells a place exactly where it is a host, `:` and a port (`laws`). Left out:
+//! which members a transmitter and a receiver have, which `sig_txsettings` and `sig_rxsettings` say.
 #![tactic(auto)]
 
 mod bearer;

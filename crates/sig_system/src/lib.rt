@@ -10,10 +10,10 @@
 //!
 //! Promised: a call fails only where a count of faults rises by one, and a call that goes well leaves it; what comes back adds
 //! its count, what is handed out has met no fault, and a link keeps where it was dialled. A write that takes nothing of a piece
-//! that isn't empty is counted as a stall. Over a reader or writer that tells its bytes, as one in memory, a call gives or takes
-//! exactly those. A read or write that the system interrupts is tried again, and is no fault. Reads and writes of files go on
-//! after short ones; a sync is of the file's bytes and size; a file is opened so that a second process is refused. A read and a
-//! write of a link, a request, a link as a whole and a dial have limits of time; one that is passed is a fault.
+//! that isn't empty is counted as a stall. Over a reader or writer that tells its bytes, as one in memory, a call gives or
+//! takes exactly those. A read or write that the system interrupts is tried again, and is no fault. Reads and writes of files
+//! go on after short ones; a sync is of the file's bytes and size; a file is opened so that a second process is refused. A
+//! read and a write of a link, a request, a link as a whole and a dial have limits of time; one that is passed is a fault.
 //!
 //! Left out: everything of content, since no contract can say what the system gives or takes; that a real disk keeps what it
 //! was asked to sync; and how long it takes to look up the addresses of a name, which has no limit here.

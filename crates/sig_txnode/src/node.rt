@@ -112,8 +112,8 @@ impl<D: Disk> TxNode<D> {
         )
     }
 
-    /// Opens a watch of a node that isn't broken: from now on its base is its state, and it has no turn and no entry. The base is
-    /// what contracts see of the state, so it copies nothing; it takes no memory.
+    /// Opens a watch of a node that isn't broken: from now on its base is its state, and it has no turn and no entry. The
+    /// base is what contracts see of the state, so it copies nothing; it takes no memory.
     pub fn open_watch(&mut self)
         requires { self.old.store.broken_at ≡ None }
         ensures opens { self.new ≡ begun self.old }

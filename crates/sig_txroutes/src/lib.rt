@@ -2,8 +2,8 @@
 //! Framework 1.0, sections 7.1 and 8.1; RFC 8936, section 2).
 //!
 //! It stands on `sig_http` for requests, responses and refusals, on `sig_stream` for what is wanted, published and told of
-//! a stream, on `sig_delivery` for what a poll asks and for pages of tokens, on `sig_terms` for calls, answers and rules, and on
-//! `sig_calls` for what a proper call is. It stands beside the transmitter's core.
+//! a stream, on `sig_delivery` for what a poll asks and for pages of tokens, on `sig_terms` for calls, answers and rules, and
+//! on `sig_calls` for what a proper call is. It stands beside the transmitter's core.
 //!
 //! ```text
 //!     method, path -> route -> bearer -> query or body -> call

@@ -19,11 +19,11 @@ use std::alloc::Global;
 
 /// The call that a request makes of the transmitter, by the table of routes. It is a proper one.
 ///
-/// The refusals come in this order: `Bad` at `body` where the body is longer than a request's may be; `Path` exactly where no route is at the path, `Method` exactly where none at it has
-/// the method, `Auth` exactly where the bearer isn't the route's, and `Bad` with the name of the query, or of the first
-/// member of the body, that is missing or wrong, `body` where it is no JSON object; of a poll by RFC 8936, section 2.4. A client's routes take the bearer of
-/// any client, and make that client's calls; of two clients with one bearer the first's. A route without a bearer reads
-/// neither query nor body.
+/// The refusals come in this order: `Bad` at `body` where the body is longer than a request's may be; `Path` exactly where no
+/// route is at the path, `Method` exactly where none at it has the method, `Auth` exactly where the bearer isn't the route's,
+/// and `Bad` with the name of the query, or of the first member of the body, that is missing or wrong, `body` where it is no
+/// JSON object; of a poll by RFC 8936, section 2.4. A client's routes take the bearer of any client, and make that client's
+/// calls; of two clients with one bearer the first's. A route without a bearer reads neither query nor body.
 pub fn call_of(alloc: Global, request: &Request, rules: &Rules) -> Result<Call, HttpRefusal>
     ensures answers { Answers HttpRefusal.Memory result (spec.call_of request.now rules.now) }
     ensures proper { IfOk result IsProperCall }

@@ -16,9 +16,9 @@ use sig_settings::{
 use sig_terms::Client;
 use std::alloc::Global;
 
-/// The clients of settings with this operator. What is missing or wrong in them is told by its path: `clients` where they are no
-/// list of at most 64 clients with names of their own, and a client's bearer where it is the operator's or that of a client
-/// before it.
+/// The clients of settings with this operator. What is missing or wrong in them is told by its path: `clients` where they are
+/// no list of at most 64 clients with names of their own, and a client's bearer where it is the operator's or that of a
+/// client before it.
 #[tactic(auto, unfolding(crate::specs::Clients::clients_in))]
 pub fn clients_in(
     alloc: Global,

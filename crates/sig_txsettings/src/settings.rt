@@ -30,10 +30,10 @@ pub struct TxSettings {
 ///
 /// `Refused` tells the path of the first of these that is missing or wrong, in this order: `length`, at most 1,048,576 bytes;
 /// `body`, a JSON object; `issuer`, a text that isn't empty; `base`, a text; `listen`, a host, `:` and a port; `operator`, a
-/// bearer token (RFC 6750, section 2.1); `default_subjects`, `ALL` or `NONE`; `min_verification_interval`, a whole number from 0
-/// to 86,400; `key`, an object `{"k", "kid"}`; `clients`, at most 64 objects `{"aud", "bearer", "name"}` whose audience is one
-/// or more texts, with names of their own, and with bearers that differ from the operator's and from each other; and
-/// `tls_gateway`, a host, `:` and a port, which may be missing.
+/// bearer token (RFC 6750, section 2.1); `default_subjects`, `ALL` or `NONE`; `min_verification_interval`, a whole number
+/// from 0 to 86,400; `key`, an object `{"k", "kid"}`; `clients`, at most 64 objects `{"aud", "bearer", "name"}` whose
+/// audience is one or more texts, with names of their own, and with bearers that differ from the operator's and from each
+/// other; and `tls_gateway`, a host, `:` and a port, which may be missing.
 #[tactic(auto, unfolding(crate::specs::Settings::tx_settings_of))]
 pub fn tx_settings(alloc: Global, bytes: &[u8]) -> Result<TxSettings, SettingsFault>
     ensures told { Answers SettingsFault.Memory result (spec.tx_settings_of bytes.now) }

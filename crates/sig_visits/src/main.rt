@@ -1,5 +1,5 @@
-//! The program `sig_visits`: visits of links at a receiver, and what it fetches, over links in memory, by lines of text (RFC 8935,
-//! section 2; RFC 8936, section 2).
+//! The program `sig_visits`: visits of links at a receiver, and what it fetches, over links in memory, by lines of text (RFC
+//! 8935, section 2; RFC 8936, section 2).
 //!
 //!     line -> bytes of a link     -> `sig_link::serve_link` -> how it ends, and the bytes written to it
 //!          -> bytes of responses  -> `sig_fetch::fetch`       -> what was fetched, and the bytes sent for each

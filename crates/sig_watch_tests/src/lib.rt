@@ -2,7 +2,8 @@
 //! was answered.
 //!
 //! It stands on both servers' watches, and nothing stands on it: a crate with tests is proved a second time for them, and here
-//! only that a node of a watch moves between threads is proved. It has what no contract can say: that links are served at the same time.
+//! only that a node of a watch moves between threads is proved. It has what no contract can say: that links are served at the
+//! same time.
 #![tactic(auto)]
 
 #[cfg(test)]
