@@ -36,8 +36,8 @@ pub const PRINCIPALS: usize = 64;
 /// Keys of one issuer at most.
 pub const KEYS_PER_ISSUER: usize = 4;
 
-/// Links that one watch serves at most.
-pub const LINKS_PER_WATCH: usize = 64;
+/// Links that a server serves at the same time at most.
+pub const LINKS_AT_ONCE: usize = 64;
 
 /// Requests that one link answers at most.
 pub const REQUESTS_PER_LINK: usize = 16;
