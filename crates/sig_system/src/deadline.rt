@@ -10,6 +10,9 @@ pub const REQUEST_SECONDS: u64 = 15;
 /// How many seconds after a response, or after the link was made, the next request has to begin.
 pub const IDLE_SECONDS: u64 = 15;
 
+/// How many seconds a link has to end that its door asks to.
+pub const HURRY_SECONDS: u64 = 1;
+
 /// How many seconds after its dial a link ends that was dialled.
 pub const EXCHANGE_SECONDS: u64 = 15;
 
@@ -40,18 +43,25 @@ impl Deadline {
         }
     }
 
-    // How many seconds a read may wait now, where it may wait at all.
-    pub fn for_read(&self, now: u64) -> Option<u64>
-        ensures { result ≡ spec.waits READ_SECONDS (min self.now.end self.now.due) now }
+    // Until when a read may wait that began then.
+    pub fn reads_until(&self, began: u64) -> u64
+        ensures { result ≡ spec.reads_until began self.now }
     {
-        within(READ_SECONDS, self.end.min(self.due), now)
+        until(READ_SECONDS, began, self.end.min(self.due))
     }
 
-    // How many seconds a write may wait now, where it may wait at all.
-    pub fn for_write(&self, now: u64) -> Option<u64>
-        ensures { result ≡ spec.waits WRITE_SECONDS self.now.end now }
+    // Until when a write may wait that began then.
+    pub fn writes_until(&self, began: u64) -> u64
+        ensures { result ≡ spec.writes_until began self.now }
     {
-        within(WRITE_SECONDS, self.end, now)
+        until(WRITE_SECONDS, began, self.end)
+    }
+
+    // The link is asked to end soon.
+    pub fn hurry(&mut self, now: u64)
+        ensures { self.new ≡ spec.hurried now self.old }
+    {
+        self.end = until(HURRY_SECONDS, now, self.end);
     }
 
     // Bytes were read: the first of a request, or further ones of it.
@@ -71,6 +81,13 @@ impl Deadline {
         self.begun = false;
         self.due = now.saturating_add(IDLE_SECONDS);
     }
+}
+
+// So many seconds from then, or an earlier moment.
+fn until(seconds: u64, began: u64, moment: u64) -> u64
+    ensures { result ≡ spec.until seconds began moment }
+{
+    began.saturating_add(seconds).min(moment)
 }
 
 // How long may be waited under this limit until then.

@@ -105,7 +105,7 @@ fn connect<R: Net<Stream = TcpStream> + Clock + Copy>(
         let now = since.elapsed(&rt).ok()?.as_secs();
         let wait = Duration::from_secs(within(DIAL_SECONDS, DIAL_SECONDS, now)?);
         if let Ok(stream) = TcpStream::connect_timeout(&rt, &address, wait) {
-            return TcpLink::over(stream, Some(kept), rt, EXCHANGE_SECONDS).ok();
+            return TcpLink::over(stream, Some(kept), rt, EXCHANGE_SECONDS, None).ok();
         }
     }
     None
