@@ -35,7 +35,8 @@ mod writer_sink;
 
 pub use again::{read_again, write_again};
 pub use deadline::{
-    EXCHANGE_SECONDS, HURRY_SECONDS, IDLE_SECONDS, LINK_SECONDS, READ_SECONDS, REQUEST_SECONDS, WRITE_SECONDS,
+    EXCHANGE_MILLISECONDS, HURRY_MILLISECONDS, IDLE_MILLISECONDS, LINK_MILLISECONDS,
+    READ_MILLISECONDS, REQUEST_MILLISECONDS, WRITE_MILLISECONDS,
 };
 pub use file_disk::{FileDisk, OpenFault};
 pub use outside_fault::OutsideFault;
@@ -44,4 +45,5 @@ pub use system_outside::SystemOutside;
 pub use tcp_door::{ACCEPT_MILLISECONDS, LACK_MILLISECONDS, LACKING_ACCEPTS, TcpDoor};
 pub use tcp_link::{REST_BYTES, REST_MILLISECONDS, REST_READS, TcpLink};
 pub use tcp_side::{DIAL_ADDRESSES, DIAL_SECONDS, TcpSide};
+pub use timing::LOOK_MILLISECONDS;
 pub use writer_sink::WriterSink;

@@ -4,7 +4,7 @@ ghost use Rattle.sig_links.specs.Told.{IfLink, IfShut};
 ghost use Rattle.sig_system.specs.Adapters.{IsOfDoor, pair_of, untold, unused};
 
 use crate::bell::Bell;
-use crate::deadline::LINK_SECONDS;
+use crate::deadline::LINK_MILLISECONDS;
 use crate::{OutsideFault, TcpLink, TcpSide};
 use mio::unix::SourceFd;
 use mio::{Events, Interest, Poll, Token};
@@ -97,11 +97,8 @@ fn listening<R: Net<Listener = TcpListener, Stream = TcpStream> + Copy>(
     listener.set_nonblocking(true)?;
     let poll = Poll::new(&rt)?;
     let descriptor = listener.as_raw_fd();
-    poll.registry().register(
-        &mut SourceFd(&descriptor),
-        Token(0),
-        Interest::READABLE,
-    )?;
+    poll.registry()
+        .register(&mut SourceFd(&descriptor), Token(0), Interest::READABLE)?;
     Ok((listener, poll))
 }
 
@@ -208,7 +205,13 @@ fn accept_link<R: Clock + Copy>(
     for _ in 0..u64::MAX {
         match listener.accept() {
             Ok((stream, _)) => {
-                if let Ok(link) = TcpLink::over(stream, None, rt, LINK_SECONDS, bell.shared()) {
+                if let Ok(link) = TcpLink::over(
+                    stream,
+                    None,
+                    rt,
+                    LINK_MILLISECONDS,
+                    bell.shared(),
+                ) {
                     return Ok(link);
                 }
             }

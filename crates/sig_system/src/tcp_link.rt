@@ -26,9 +26,10 @@ pub const REST_BYTES: usize = 8_192;
 /// dialled. A read or a write that waits longer than its limit, or past a deadline of the link, fails. `R` is a handle on the
 /// clock.
 ///
-/// An accepted link ends `LINK_SECONDS` after it was made, a dialled one `EXCHANGE_SECONDS` after. A request has to begin
-/// `IDLE_SECONDS` after a response, or after the link was made, and to be there whole `REQUEST_SECONDS` after its first byte.
-/// An accepted link that its door asks to end has `HURRY_SECONDS` left. Each may pass by a second.
+/// An accepted link ends `LINK_MILLISECONDS` after it was made, a dialled one `EXCHANGE_MILLISECONDS` after. A request has to
+/// begin `IDLE_MILLISECONDS` after a response, or after the link was made, and to be there whole `REQUEST_MILLISECONDS` after
+/// its first byte. An accepted link that its door asks to end has `HURRY_MILLISECONDS` left. Each may pass by
+/// `LOOK_MILLISECONDS`.
 #[derive(Drop)]
 pub struct TcpLink<R> {
     // None once the link has ended, so that its descriptor is free at once.
@@ -49,18 +50,18 @@ impl<R> Model for TcpLink<R> {
 }
 
 impl<R: Clock + Copy> TcpLink<R> {
-    // A link over a stream that was just made, which ends after so many seconds, or soon after the bell is rung. `place` is
+    // A link over a stream that was just made, which ends after so many milliseconds, or soon after the bell is rung. `place` is
     // where it was dialled.
     pub(crate) fn over(
         stream: TcpStream,
         place: Option<Place>,
         rt: R,
-        seconds: u64,
+        milliseconds: u64,
         bell: Option<Bell>,
     ) -> io::Result<TcpLink<R>>
         ensures { IfOk result (λ link. link ≡ unused (option_map pair_of place)) }
     {
-        let timing = Timing::of(rt, seconds, bell)?;
+        let timing = Timing::of(rt, milliseconds, bell)?;
         stream.set_nodelay(true)?;
         set_looks(&stream)?;
         Ok(TcpLink {

@@ -14,7 +14,7 @@ use std::time::{Duration, Instant};
 
 /// How many milliseconds a read or a write waits at most before it looks at the time again, and whether its link is to end
 /// soon.
-pub const LOOK_MILLISECONDS: u64 = 500;
+pub const LOOK_MILLISECONDS: u64 = 250;
 
 // The time of a link: since when it stands, until when it may wait for its peer, and what asks it to end soon. `R` is a handle
 // on the clock.
@@ -27,23 +27,23 @@ pub struct Timing<R> {
 }
 
 impl<R: Clock + Copy> Timing<R> {
-    // Of a link that is made now, and ends after so many seconds.
-    pub fn of(rt: R, seconds: u64, bell: Option<Bell>) -> io::Result<Timing<R>> {
+    // Of a link that is made now, and ends after so many milliseconds.
+    pub fn of(rt: R, milliseconds: u64, bell: Option<Bell>) -> io::Result<Timing<R>> {
         let since = Instant::now(&rt)?;
         Ok(Timing {
             rt,
             since,
-            deadline: Deadline::after(seconds),
+            deadline: Deadline::after(milliseconds),
             bell,
         })
     }
 
-    // The seconds since the link was made. A link that is to end soon learns it here.
+    // The milliseconds since the link was made. A link that is to end soon learns it here.
     fn look(&mut self) -> Result<u64, Failed> {
         let Ok(elapsed) = self.since.elapsed(&self.rt) else {
             return Err(Failed);
         };
-        let now = elapsed.as_secs();
+        let now = u64::try_from(elapsed.as_millis()).unwrap_or(u64::MAX);
         if let Some(bell) = &self.bell {
             if bell.is_rung() {
                 self.deadline.hurry(now);
