@@ -180,7 +180,7 @@ def broken_clients(receiver):
 
 
 def full_disk(receiver):
-    """A file that may not grow: a push is answered 503, and so is the next one. Loaded again, it is there whole or not at all."""
+    """A file that may not grow: a push is answered 503, and the server ends. Loaded again, it is there whole or not at all."""
 
     def limited():
         signal.signal(signal.SIGXFSZ, signal.SIG_IGN)
@@ -191,10 +191,10 @@ def full_disk(receiver):
     texts = [token(f"full-{number}", opaque(f"f-{number}")) for number in range(2)]
     receiver.kill()
     receiver.start(limited)
-    said = [receiver.ask_as_text("POST", "/push", text, "push", kind)[0] for text in texts]
-    need(said == [503, 503], f"over a full disk pushes are answered {said}")
-    need(receiver.ask("POST", "/sessions/check", opaque("f-0"), "reader") in ((200, unknown()), (503, None)), "a push that was answered 503 has an effect")
-    receiver.kill()
+    said = receiver.ask_as_text("POST", "/push", texts[0], "push", kind)[0]
+    need(said == 503, f"over a full disk a push is answered {said}")
+    ended = receiver.ended(2)
+    need(ended == (5, "signals: store failed\n"), f"over a full disk the server ends with {ended}")
     receiver.start()
     need([push(receiver, text) for text in texts] == ["202", "202"], "after a full disk pushes are refused")
     need(receiver.ask("POST", "/sessions/check", opaque("f-1"), "reader")[1]["session"] == "revoked", "a push after a full disk has no effect")

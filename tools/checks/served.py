@@ -84,6 +84,14 @@ class Served:
                 time.sleep(0.02)
         fail("the server doesn't listen")
 
+    def ended(self, seconds):
+        """The status and the output of a server that ends by itself within so many seconds."""
+        try:
+            out, _ = self.running.communicate(timeout=seconds)
+        except subprocess.TimeoutExpired:
+            fail(f"the server stands after {seconds} seconds")
+        return self.running.returncode, out.decode()
+
     def kill(self):
         self.running.send_signal(signal.SIGKILL)
         out, _ = self.running.communicate()

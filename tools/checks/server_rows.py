@@ -146,7 +146,7 @@ def slow_client(server):
 
 
 def full_disk(server):
-    """A file that may not grow: the publication is answered 503, and so is the next one. Loaded again, it is there whole or not at all."""
+    """A file that may not grow: the publication is answered 503, and the server ends. Loaded again, it is there whole or not at all."""
 
     def limited():
         signal.signal(signal.SIGXFSZ, signal.SIG_IGN)
@@ -155,9 +155,10 @@ def full_disk(server):
 
     server.kill()
     server.start(limited)
-    said = [publish(server, number)[0] for number in (903, 904)]
-    need(said == [503, 503], f"over a full disk publications are answered {said}")
-    server.kill()
+    said = publish(server, 903)[0]
+    need(said == 503, f"over a full disk a publication is answered {said}")
+    ended = server.ended(2)
+    need(ended == (5, "signals: store failed\n"), f"over a full disk the server ends with {ended}")
     server.start()
     said = [publish(server, number) for number in (903, 904)]
     need([status for status, _ in said] == [200, 200], f"after a full disk publications are answered {said}")
