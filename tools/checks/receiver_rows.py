@@ -200,10 +200,6 @@ def full_disk(receiver):
     need(receiver.ask("POST", "/sessions/check", opaque("f-1"), "reader")[1]["session"] == "revoked", "a push after a full disk has no effect")
 
 
-def unknown():
-    return {"account": "unseen", "allow": True, "device": "unseen", "known": False, "reset": False, "session": "unseen"}
-
-
 class Peer:
     """A transmitter that answers polls as it is told, and keeps what it was asked."""
 
