@@ -14,6 +14,7 @@ import http.client
 import os
 import resource
 import select
+import shutil
 import signal
 import socket
 import sys
@@ -125,6 +126,7 @@ def no_thread(server, room):
     """A server that may make no thread serves each connection itself, before it accepts the next one."""
     if os.geteuid() != 0:
         return
+    server.program = shutil.copy(server.program, room)
     for folder, _, names in os.walk(room):
         for path in [folder, *(os.path.join(folder, name) for name in names)]:
             os.chown(path, NOBODY, NOBODY)

@@ -156,7 +156,9 @@ impl<R: Clock + Copy> Link for TcpLink<R> {
 
     fn finish(&mut self) {
         if let Some(mut stream) = self.stream.take() {
-            take_rest(&mut stream);
+            if !self.timing.is_hurried {
+                take_rest(&mut stream);
+            }
         }
     }
 

@@ -24,6 +24,8 @@ pub struct Timing<R> {
     since: Instant,
     deadline: Deadline,
     bell: Option<Bell>,
+    // Whether the bell was heard.
+    pub is_hurried: bool,
 }
 
 impl<R: Clock + Copy> Timing<R> {
@@ -35,6 +37,7 @@ impl<R: Clock + Copy> Timing<R> {
             since,
             deadline: Deadline::after(milliseconds),
             bell,
+            is_hurried: false,
         })
     }
 
@@ -48,6 +51,7 @@ impl<R: Clock + Copy> Timing<R> {
             if bell.is_rung() {
                 self.deadline.hurry(now);
                 self.bell = None;
+                self.is_hurried = true;
             }
         }
         Ok(now)
