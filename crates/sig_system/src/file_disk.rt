@@ -3,10 +3,12 @@ ghost use Rattle.std.specs.Io.{ReadsAtMost};
 ghost use Rattle.std.proofs.lemmas.Bool.{false≢true};
 ghost use Rattle.sig_outside.specs.Causes.{HasCause};
 
+use libc::{POSIX_FADV_DONTNEED, posix_fadvise};
 use sig_outside::{Disk, Failed};
 use std::fs::{File, Files, OpenOptions, TryLockError};
 use std::io::ErrorKind;
 use std::marker::Model;
+use std::os::fd::AsRawFd;
 use std::os::unix::fs::{FileExt, OpenOptionsExt};
 use thiserror::Error;
 
@@ -31,7 +33,7 @@ impl Model for FileDisk {
 /// Why a file could not be opened.
 #[derive(Clone, Copy, Debug, PartialEq, Eq, Error)]
 pub enum OpenFault {
-    /// The system refused it.
+    /// The system refused it, or syncing it failed.
     #[error("the file can't be opened")]
     Failed,
     /// Another process has it open.
@@ -40,8 +42,8 @@ pub enum OpenFault {
 }
 
 impl FileDisk {
-    /// Opens a file, or makes an empty one that its owner alone may read and write, and locks it against every other process
-    /// until it is let go.
+    /// Opens a file, or makes an empty one that its owner alone may read and write. It is locked against every other process
+    /// until it is let go, and read as the disk has it.
     pub fn open<R: Files<File = File>>(rt: &R, path: &str) -> Result<FileDisk, OpenFault>
         ensures { IfOk result (λ disk. disk ≡ 0) }
     {
@@ -55,9 +57,13 @@ impl FileDisk {
             return Err(OpenFault::Failed);
         };
         match file.try_lock() {
-            Ok(()) => Ok(FileDisk { file, faults: 0 }),
-            Err(TryLockError::WouldBlock) => Err(OpenFault::InUse),
-            Err(TryLockError::Error(_)) => Err(OpenFault::Failed),
+            Ok(()) => {}
+            Err(TryLockError::WouldBlock) => return Err(OpenFault::InUse),
+            Err(TryLockError::Error(_)) => return Err(OpenFault::Failed),
+        }
+        match settle(rt, &file, path) {
+            Some(()) => Ok(FileDisk { file, faults: 0 }),
+            None => Err(OpenFault::Failed),
         }
     }
 
@@ -141,6 +147,26 @@ impl Disk for FileDisk {
 
     // A file of the system never stands still.
     fn stop_after(&mut self, _calls: u64, _fill: u8) {}
+}
+
+// Syncs a file and its folder, and has the system forget the pages of the file: a sync that failed in an earlier process may
+// have left pages that the disk never got, and that the system takes for synced since.
+fn settle<R: Files<File = File>>(rt: &R, file: &File, path: &str) -> Option<()> {
+    file.sync_all().ok()?;
+    if posix_fadvise(file.as_raw_fd(), 0, 0, POSIX_FADV_DONTNEED) != 0 {
+        return None;
+    }
+    let folder = File::open(rt, folder_of(path)).ok()?;
+    folder.sync_all().ok()
+}
+
+// The folder of the file at this path.
+fn folder_of(path: &str) -> &str {
+    match path.rsplit_once('/') {
+        Some(("", _)) => "/",
+        Some((folder, _)) => folder,
+        None => ".",
+    }
 }
 
 // Cuts a file that is longer.

@@ -6,7 +6,7 @@ pub enum OutsideFault {
     /// The system doesn't open the file of the settings.
     #[error("the settings can't be opened")]
     Settings,
-    /// The system doesn't open or make the file of a store.
+    /// The system doesn't open or make the file of a store, or syncing it failed.
     #[error("the store can't be opened")]
     Store,
     /// Another process has the store open.

@@ -10,6 +10,13 @@ use std::fs::{File, Files};
 use std::marker::Model;
 use std::net::{Net, TcpListener, TcpStream};
 use std::rt::Clock;
+use std::time::Duration;
+
+// How many milliseconds a place that is in use is left alone before it is asked for again.
+const DOOR_MILLISECONDS: u64 = 100;
+
+// How often it is asked for again: for ten seconds.
+const DOOR_TRIES: u32 = 100;
 
 /// The system as the outside: settings and stores are files by their paths, doors and sides are those over TCP. It tells
 /// nothing of their content, and counts their faults. `R` is a handle on the system, as a reference to the runtime.
@@ -133,7 +140,7 @@ impl<
         ensures why { OnErr result (IfSome self.new.last IsOfDoor × (self.new ≡ record self.old { network = self.new.network; last = self.new.last })) }
         ensures cause { HasCause self.old.network self.new.network result }
     {
-        match TcpDoor::open(self.alloc, self.rt, place) {
+        match open_door(self.alloc, self.rt, place) {
             Ok(given) => Ok(given),
             Err(fault) => {
                 self.last = Some(fault);
@@ -153,6 +160,25 @@ impl<
     fn back_side(&mut self, side: TcpSide<R>) {
         self.network.gather(side.faults());
     }
+}
+
+// A door at this place. A place that is in use is asked for again, since the process that has it may be about to end.
+fn open_door<R: Net<Listener = TcpListener, Stream = TcpStream> + Clock + Copy>(
+    alloc: Global,
+    rt: R,
+    place: &Place,
+) -> Result<TcpDoor<R>, OutsideFault>
+    ensures door { IfOk result (λ door. door ≡ record { place = Some (pair_of place.now); faults = 0 }) }
+    ensures why { IfErr result IsOfDoor }
+{
+    for _ in 0..DOOR_TRIES {
+        match TcpDoor::open(alloc, rt, place) {
+            Ok(door) => return Ok(door),
+            Err(OutsideFault::PlaceInUse) => rt.sleep(Duration::from_millis(DOOR_MILLISECONDS)),
+            Err(fault) => return Err(fault),
+        }
+    }
+    TcpDoor::open(alloc, rt, place)
 }
 
 // The settings in the file at this path.
