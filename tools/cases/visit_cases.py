@@ -156,6 +156,13 @@ def fetches():
         (b"", "http"),
     ]:
         yield fetch(f"A peer that is wrong at `{place}` ends it; what was taken before stays.", 5, [page(**{"t-00": named["t-00"]}), gives], f"peer {place}", polled(), polled(["t-00"]))
+    hints = b"HTTP/1.1 103 Early Hints\r\nlink: </page>\r\n\r\n"
+    yield fetch("Five interim responses before a page are passed over (RFC 9110, section 15.2).", 5, [b"HTTP/1.1 100 Continue\r\n\r\n" + 4 * hints + page()],
+                "rounds 1 accepted 0 seen 0 refused 0", polled())
+    yield fetch("A sixth is no response, whatever follows it.", 5, [6 * hints + page()], "peer http", polled())
+    yield fetch("A link that ends behind one gives no response.", 5, [hints], "peer http", polled())
+    switching = b"HTTP/1.1 101 Switching Protocols\r\nconnection: upgrade\r\nupgrade: x\r\n\r\n"
+    yield fetch("A change of protocols is no response (RFC 9110, section 15.2.2).", 5, [hints + switching + page()], "peer http", polled())
     yield fetch("A peer that isn't there any more.", 5, [page(**{"t-01": named["t-01"]})], "dial", polled())
 
 

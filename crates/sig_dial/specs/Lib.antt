@@ -1,2 +1,3 @@
+pub mod Interim
 pub mod Exchanged
 pub mod Asked

@@ -10,7 +10,8 @@ pub enum AskFault {
     /// The link failed, while the request was written or while the response was read.
     #[error("the link failed")]
     Link,
-    /// What the link gave is no response (RFC 9112): it ended within one, or broke the rules or the limits.
+    /// What the link gave is no response (RFC 9112): it ended within one, broke the rules or the limits, sent more than
+    /// `INTERIM_RESPONSES` interim ones before it, or changed the protocol (RFC 9110, section 15.2).
     #[error("the link gave no response")]
     NoResponse,
     /// Out of memory.

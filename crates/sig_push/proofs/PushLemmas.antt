@@ -54,7 +54,7 @@ sends_push rules token endpoint place request answer result has leads is f old n
 
 ends_over : (bytes : List ℕ) (answer : Result Response AskFault) (result : Result Outcome PushFault) → Follows answer result → Decides bytes answer → EndsOver result bytes
 ends_over bytes (Ok response) result (inl e) d = rw e tt
-ends_over bytes (Ok response) result (inr e) d = rw e (response, d.0, d.1, refl)
+ends_over bytes (Ok response) result (inr e) d = rw e (response, d, refl)
 ends_over bytes (Err asked.Dial) result f d = absurd d
 ends_over bytes (Err asked.Link) result f d = rw f tt
 ends_over bytes (Err asked.NoResponse) result f d = rw f d

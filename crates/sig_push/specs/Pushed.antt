@@ -3,10 +3,9 @@ use Rattle.std.specs.Prelude.{◌≡◌, ◌⊎◌, ℕ, List, ◌++◌, Option,
 use Rattle.std.specs.Option.{option_to_list}
 use Rattle.sig_delivery.specs.Outcomes.{outcome_of}
 use Rattle.sig_dial.specs.Asked.{IsPrefix}
-use Rattle.sig_dial.specs.Exchanged.{DecidesNone}
+use Rattle.sig_dial.specs.Exchanged.{DecidesNone, DecidesOne}
 use Rattle.sig_dial.specs.declared.fault.AskFault.{AskFault}
 use Rattle.sig_dial.specs.declared.fault.AskFault.TheVariants as asked
-use Rattle.sig_http.specs.Message.{DecidesResponse, Whole}
 use Rattle.sig_http.specs.declared.message.Response.{Response}
 use Rattle.sig_links.specs.Told.{LinkPlan, Sent}
 use Rattle.sig_outside.specs.Causes.{Raised}
@@ -76,7 +75,7 @@ Sends rules token (Some old) new result = (link : Option Sent) × (new ≡ Some 
 
 -- a push ended so over a link that gives these bytes: its answer is what the response settles that they decide
 abbrev pub EndsOver : Result Outcome PushFault → List ℕ → Type 0
-EndsOver (Ok outcome) bytes = (response : Response) × (rest : List ℕ) × DecidesResponse bytes (Whole response rest) × (outcome ≡ outcome_of response)
+EndsOver (Ok outcome) bytes = (response : Response) × DecidesOne bytes response × (outcome ≡ outcome_of response)
 EndsOver (Err NoEndpoint) bytes = ⊥
 EndsOver (Err NoGateway) bytes = ⊥
 EndsOver (Err Dial) bytes = ⊥
