@@ -68,12 +68,18 @@ module _ {G : Type 0} (serves : ℕ → G → Sight → Sight → Type 0) where
   until a b stop old d d' count live passes stops = record { between = d; passes = passes; stops = stops }
 
   -- the watch goes on
-  pub goes_on : (a b : List G) (old new : Moment) → PassesUntil serves a b None old new → Passes serves a b old new
-  goes_on a b old new h = subst (λ (d : DoorView). Passes serves a b old (moment d new.count new.live)) (sym h.stops) h.passes
+  pub goes_on : (a b : List G) (stop : Option Stop) (old new : Moment) → stop ≡ None → PassesUntil serves a b stop old new → Passes serves a b old new
+  goes_on a b stop old new none h =
+      let same : new.door ≡ h.between = subst (λ (o : Option Stop). StopsIf o new.count h.between new.door) none h.stops in
+      subst (λ (d : DoorView). Passes serves a b old (moment d new.count new.live)) (sym same) h.passes
 
-  -- a part before
-  pub after : (a b c : List G) (stop : Option Stop) (old mid new : Moment) → Passes serves a b old mid → PassesUntil serves b c stop mid new → PassesUntil serves a c stop old new
-  after a b c stop old mid new one two = record { between = two.between; passes = joined a b c old mid (record new { door = two.between }) one two.passes; stops = two.stops }
+  -- a part before it stops
+  pub after : (a b c : List G) (stop told : Option Stop) (old mid new : Moment) → told ≡ stop → Passes serves a b old mid → PassesUntil serves b c told mid new → PassesUntil serves a c stop old new
+  after a b c stop told old mid new is one two = record {
+    between = two.between;
+    passes = joined a b c old mid (record new { door = two.between }) one two.passes;
+    stops = subst (λ (o : Option Stop). StopsIf o new.count two.between new.door) is two.stops;
+  }
 
 -- ---- one of a list
 

@@ -7,7 +7,7 @@ use Rattle.sig_serving.specs.declared.stop.Stop.{Stop}
 use Rattle.sig_serving.specs.declared.stop.Stop.TheVariants.{Spent, Shut, Failed, Halted}
 use Rattle.sig_watch.specs.Accepting.{StopsBy}
 use Rattle.sig_watch.specs.Attending.{Attends, GoBack, with_all}
-use Rattle.sig_watch.specs.Happening.{Came, Event, IsWithout, Moment, OpenLink, Runs, Went, left_of, logs_of, moment}
+use Rattle.sig_watch.specs.Happening.{Came, Event, IsWithout, Moment, OpenLink, Runs, Went, left_of, logs_of, moment, open_link}
 use Rattle.sig_watch.specs.Passing.{Passes, PassesUntil}
 use Rattle.sig_watch.specs.Sights.{Sight}
 use Rattle.sig_watch.proofs.PassLemmas.{logs_more}
@@ -56,7 +56,7 @@ module _ {G : Type 0} (serves : ℕ → G → Sight → Sight → Type 0) where
   ran base (Came sight ∷ later) old new out h =
       let b : Moment = h.0 in
       let gives = h.1.0 in
-      let more : length b.live ≡ suc (length old.live) = omega (arith, ap length h.1.2, length-append old.live ((record { number = b.count; came = sight } : OpenLink) ∷ [])) in
+      let more : length b.live ≡ suc (length old.live) = omega (arith, ap length h.1.2, length-append old.live (open_link b.count sight ∷ [])) in
       let here : IsOut base b.door.served b.door.out (length b.live) =
       subst (λ (n : ℕ). IsOut base b.door.served b.door.out n) (sym more)
       (subst (λ (o : Option (List Served)). IsOut base o b.door.out (suc (length old.live))) (sym gives.served)
@@ -110,6 +110,7 @@ module _ {G : Type 0} (serves : ℕ → G → Sight → Sight → Type 0) where
   go_back : (events since : List (Event G)) (old between new : DoorView) (last : Moment) (stop : Stop) → Runs serves events (moment old 0 []) last → StopsBy stop last.count last.door between
       → Runs serves since (moment between last.count last.live) (moment new last.count []) → GoBack (left_of (events ++ since)) old between new
   go_back events since old between new last stop runs stops ends =
+      let plus : 0 + old.out ≡ old.out = omega arith in
       let one : Ran old.out (left_of events) (moment old 0 []) last = ran serves old.out events (moment old 0 []) last (where_told old.served (old.out ≡ 0 + old.out) (omega arith)) runs in
       let same : between ≡ record last.door { faults = between.faults } = stopped stop last.count last.door between stops in
       let out : IsOut old.out between.served between.out (length last.live) = subst (λ (d : DoorView). IsOut old.out d.served d.out (length last.live)) (sym same) one.out in
@@ -118,7 +119,7 @@ module _ {G : Type 0} (serves : ℕ → G → Sight → Sight → Type 0) where
       record {
         served = two.served ∙ ap (λ (o : Option (List Served)). with_all o (left_of since)) (ap (λ (d : DoorView). d.served) same ∙ one.served)
             ∙ sym (ap (with_all old.served) (left_more events since) ∙ with_more old.served (left_of events) (left_of since));
-        out = two.out;
+        out = subst (λ (n : ℕ). IfSome new.served (λ (list : List Served). new.out ≡ n)) plus two.out;
         coming = two.coming refl;
         place = two.place ∙ ap (λ (d : DoorView). d.place) same ∙ one.place;
         faults = two.faults;

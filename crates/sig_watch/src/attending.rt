@@ -48,14 +48,44 @@ pub fn attend<R: Threads + Wait + Sync, H: Host + Sync, A: Door>(
     ensures halts { HaltsSo (H.answered host.now) result.stop (length result.logs) }
 {
     let Room { course, endings } = room;
-    let Lent {
-        door: _,
-        stop,
-        logs,
-    } = in_scope(rt, host, &endings, door, course);
+    let gathered = serve_in_scope(rt, host, &endings, door, course);
     Attended {
-        stop,
-        logs: Items::of(logs),
+        stop: gathered.stop,
+        logs: Items::of(gathered.logs),
+    }
+}
+
+// Why no further link was accepted, and the logs of those that were.
+#[derive(Drop)]
+struct Gathered<G> {
+    stop: Stop,
+    logs: Vec<G>,
+}
+
+// Serves the links that a door gives in a scope.
+fn serve_in_scope<R, H, L, S, A, V>(
+    rt: &R,
+    host: &H,
+    endings: &Endings,
+    door: &mut A,
+    course: Course<H, V>,
+) -> Gathered<H::Log>
+where
+    R: Threads + Wait + Sync,
+    H: Host + Sync,
+    L: Link,
+    S: Side<L: Send>,
+    A: Door<L = L, S = S>,
+    V: Comes<L, S> + Send + Drop,
+    requires none { (course.count ≡ 0) × (course.live.items ≡ []) × (course.logs.items ≡ []) }
+    ensures attends { Attends (H.serves host.now) result.stop result.logs.items (A.view door.old) (A.view door.new) }
+    ensures lets_in { LetsIn (H.answered host.now) 0 (vec_len result.logs) }
+    ensures halts { HaltsSo (H.answered host.now) result.stop (vec_len result.logs) }
+{
+    let lent = in_scope(rt, host, endings, door, course);
+    Gathered {
+        stop: lent.stop,
+        logs: lent.logs,
     }
 }
 

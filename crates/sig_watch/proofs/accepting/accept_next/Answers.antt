@@ -36,5 +36,5 @@ returns-in-Ok-Shut-clause-passes g c =
 pub returns-in-Err-clause-passes : goal.returns-in-Err-clause-passes
 returns-in-Err-clause-passes g c =
     let answer = c.in-Err.ensures in
-    until (g.H.Host.serves c.args.host.now) _ _ (Some Failed) _ _ _ _ _ (stays (g.H.Host.serves c.args.host.now) _ _)
-    (c.requires.room.0, record { cause = answer.cause.failed; same = view_faulty _ _ answer.none.0 answer.none.1 answer.others })
+    until (g.H.Host.serves c.args.host.now) _ _ (Some Failed) _ (g.A.Door.view c.args.door.now) (g.A.Door.view c.accept.new.self) _ _ (stays (g.H.Host.serves c.args.host.now) _ _)
+    (c.requires.room.0, record { cause = answer.cause.failed; same = view_faulty (g.A.Door.view c.args.door.now) (g.A.Door.view c.accept.new.self) answer.none.0 answer.none.1 answer.others })

@@ -14,5 +14,5 @@ returns-in-Err-clause-passes g c =
     let back : IsBack (seen gone.visit) (g.A.Door.view c.args.door.now) (g.A.Door.view c.back.new.self) =
     subst (λ (s : Sight). IsBack s (g.A.Door.view c.args.door.now) (g.A.Door.view c.back.new.self)) c.into_visit-link.ensures
     (record { takes = c.back.ensures.back; coming = c.back.ensures.others.0; place = c.back.ensures.others.1; faults = c.back.ensures.faults }) in
-    went (g.H.Host.serves c.args.host.now) _ _ one gone.log (seen gone.visit) _ _ c.push_reserved.ensures.items
+    went (g.H.Host.serves c.args.host.now) _ _ one gone.log (seen gone.visit) _ _ c.push_reserved-in-Err.ensures.items
     (back, c.in-Err.ensures.err, refl, (_, [], refl, sym (append-nil _)))
