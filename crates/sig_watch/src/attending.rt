@@ -48,18 +48,12 @@ pub fn attend<R: Threads + Wait + Sync, H: Host + Sync, A: Door>(
     ensures halts { HaltsSo (H.answered host.now) result.stop (length result.logs) }
 {
     let Room { course, endings } = room;
-    let gathered = serve_in_scope(rt, host, &endings, door, course);
+    let mut course = course;
+    let stop = serve_in_scope(rt, host, &endings, door, &mut course);
     Attended {
-        stop: gathered.stop,
-        logs: Items::of(gathered.logs),
+        stop,
+        logs: Items::of(course.into_logs()),
     }
-}
-
-// Why no further link was accepted, and the logs of those that were.
-#[derive(Drop)]
-struct Gathered<G> {
-    stop: Stop,
-    logs: Vec<G>,
 }
 
 // Serves the links that a door gives in a scope.
@@ -68,8 +62,8 @@ fn serve_in_scope<R, H, L, S, A, V>(
     host: &H,
     endings: &Endings,
     door: &mut A,
-    course: Course<H, V>,
-) -> Gathered<H::Log>
+    course: &mut Course<H, V>,
+) -> Stop
 where
     R: Threads + Wait + Sync,
     H: Host + Sync,
@@ -77,34 +71,31 @@ where
     S: Side<L: Send>,
     A: Door<L = L, S = S>,
     V: Comes<L, S> + Send + Drop,
-    requires none { (course.count ≡ 0) × (course.live.items ≡ []) × (course.logs.items ≡ []) }
-    ensures attends { Attends (H.serves host.now) result.stop result.logs.items (A.view door.old) (A.view door.new) }
-    ensures lets_in { LetsIn (H.answered host.now) 0 (vec_len result.logs) }
-    ensures halts { HaltsSo (H.answered host.now) result.stop (vec_len result.logs) }
+    requires none { (course.old.count ≡ 0) × (course.old.live.items ≡ []) × (course.old.logs.items ≡ []) }
+    ensures attends { Attends (H.serves host.now) result course.new.logs.items (A.view door.old) (A.view door.new) }
+    ensures lets_in { LetsIn (H.answered host.now) 0 (vec_len course.new.logs) }
+    ensures halts { HaltsSo (H.answered host.now) result (vec_len course.new.logs) }
 {
     let lent = in_scope(rt, host, endings, door, course);
-    Gathered {
-        stop: lent.stop,
-        logs: lent.logs,
-    }
+    lent.stop
 }
 
-// A door that was lent to a scope, why no further link was accepted, and the logs of those that were.
+// A door and the course of its links, lent to a scope; and why no further link was accepted.
 #[derive(Drop)]
-struct Lent<'d, A, G> {
+struct Lent<'d, 'c, A, C> {
     door: &'d mut A,
+    course: &'c mut C,
     stop: Stop,
-    logs: Vec<G>,
 }
 
-// Serves the links that a door gives in a scope, which gives the door back.
-fn in_scope<'d, 'x, R, H, L, S, A, V>(
+// Serves the links that a door gives in a scope, which gives back what it was lent.
+fn in_scope<'d, 'c, 'x, R, H, L, S, A, V>(
     rt: &'x R,
     host: &'x H,
     endings: &'x Endings,
     door: &'d mut A,
-    course: Course<H, V>,
-) -> Lent<'d, A, H::Log>
+    course: &'c mut Course<H, V>,
+) -> Lent<'d, 'c, A, Course<H, V>>
 where
     R: Threads + Wait + Sync,
     H: Host + Sync,
@@ -112,30 +103,25 @@ where
     S: Side<L: Send>,
     A: Door<L = L, S = S>,
     V: Comes<L, S> + Send + Drop,
-    requires none { (course.count ≡ 0) × (course.live.items ≡ []) × (course.logs.items ≡ []) }
-    ensures same { result.door.ghost_name ≡ door.entry.ghost_name }
-    ensures attends { Attends (H.serves host.now) result.stop result.logs.items (A.view door.old) (A.view result.door.now) }
-    ensures lets_in { LetsIn (H.answered host.now) 0 (vec_len result.logs) }
-    ensures halts { HaltsSo (H.answered host.now) result.stop (vec_len result.logs) }
+    requires none { (course.old.count ≡ 0) × (course.old.live.items ≡ []) × (course.old.logs.items ≡ []) }
+    ensures same { (result.door.ghost_name ≡ door.entry.ghost_name) × (result.course.ghost_name ≡ course.entry.ghost_name) }
+    ensures attends { Attends (H.serves host.now) result.stop result.course.now.logs.items (A.view door.old) (A.view result.door.now) }
+    ensures lets_in { LetsIn (H.answered host.now) 0 (vec_len result.course.now.logs) }
+    ensures halts { HaltsSo (H.answered host.now) result.stop (vec_len result.course.now.logs) }
 {
     thread::scope(
         thread::scope_env(),
         rt,
-        move |scope| -> Lent<'_, A, H::Log>
+        move |scope| -> Lent<'_, '_, A, Course<H, V>>
             requires shared { IsSync R.row × IsSync H.row }
-            requires none { (course.count ≡ 0) × (course.live.items ≡ []) × (course.logs.items ≡ []) }
-            ensures same { result.door.ghost_name ≡ door.entry.ghost_name }
-            ensures attends { Attends (H.serves host.entry.now) result.stop result.logs.items (A.view door.entry.now) (A.view result.door.now) }
-            ensures lets_in { LetsIn (H.answered host.entry.now) 0 (vec_len result.logs) }
-            ensures halts { HaltsSo (H.answered host.entry.now) result.stop (vec_len result.logs) }
+            requires none { (course.now.count ≡ 0) × (course.now.live.items ≡ []) × (course.now.logs.items ≡ []) }
+            ensures same { (result.door.ghost_name ≡ door.entry.ghost_name) × (result.course.ghost_name ≡ course.entry.ghost_name) }
+            ensures attends { Attends (H.serves host.entry.now) result.stop result.course.now.logs.items (A.view door.entry.now) (A.view result.door.now) }
+            ensures lets_in { LetsIn (H.answered host.entry.now) 0 (vec_len result.course.now.logs) }
+            ensures halts { HaltsSo (H.answered host.entry.now) result.stop (vec_len result.course.now.logs) }
         {
-            let mut course = course;
-            let stop = serve_all(scope, rt, host, endings, &mut *door, &mut course);
-            Lent {
-                door,
-                stop,
-                logs: course.into_logs(),
-            }
+            let stop = serve_all(scope, rt, host, endings, &mut *door, &mut *course);
+            Lent { door, course, stop }
         },
     )
 }
