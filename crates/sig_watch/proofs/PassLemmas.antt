@@ -1,5 +1,5 @@
 -- Parts of a watch, joined; a link that came, and one that went back.
-use Rattle.std.proofs.Common.{◌≡◌, ◌∙◌, ◌⊎◌, inl, inr, ℕ, zero, suc, ◌+◌, ◌<◌, ◌≤◌, List, [], ◌∷◌, ◌++◌, length, take, drop, map, Bool, true, false, nat_le, Option, Some, None, refl, sym, ap, subst, arith, append_assoc, append-nil, length-append}
+use Rattle.std.proofs.Common.{◌≡◌, ◌∙◌, ℕ, zero, suc, ◌<◌, ◌≤◌, List, [], ◌∷◌, ◌++◌, length, take, drop, map, Bool, true, false, nat_le, Option, None, refl, sym, ap, subst, arith, append_assoc, append-nil, length-append}
 use Rattle.std.proofs.lemmas.Bool.Decides.{nat_tests}
 use Rattle.std.proofs.lemmas.List.{length-map, map-append}
 use Rattle.std.specs.Prelude.{slice_index_or}
@@ -106,17 +106,9 @@ room_left opened items one fewer = omega (arith, fewer, length-append (map opene
 pub lets_none : (answered : ℕ → Bool → Type 0) (count : ℕ) → LetsIn answered count count
 lets_none answered count = λ number more most. absurd (omega (arith, more, most))
 
-pub lets_one : (answered : ℕ → Bool → Type 0) (count : ℕ) → answered (count + 1) true → LetsIn answered count (count + 1)
-lets_one answered count asked = λ number more most. subst (λ (n : ℕ). answered n true) (omega (arith, more, most)) asked
-
 lets_either : (answered : ℕ → Bool → Type 0) (a b c : ℕ) → LetsIn answered a b → LetsIn answered b c → (number : ℕ) → a < number → number ≤ c → (low : Bool) → nat_le number b ≡ low → answered number true
 lets_either answered a b c one two number more most true is = one number more (grind (arith, nat_tests, is))
 lets_either answered a b c one two number more most false is = two number (grind (arith, nat_tests, is)) most
 
 pub lets_more : (answered : ℕ → Bool → Type 0) (a b c : ℕ) → LetsIn answered a b → LetsIn answered b c → LetsIn answered a c
 lets_more answered a b c one two = λ number more most. lets_either answered a b c one two number more most (nat_le number b) refl
-
--- one more came at most, of which it was asked
-pub lets_to : (answered : ℕ → Bool → Type 0) (old new : ℕ) → (new ≡ old) ⊎ (new ≡ old + 1) → answered (old + 1) true → LetsIn answered old new
-lets_to answered old new (inl same) asked = subst (λ (n : ℕ). LetsIn answered old n) (sym same) (lets_none answered old)
-lets_to answered old new (inr one) asked = subst (λ (n : ℕ). LetsIn answered old n) (sym one) (lets_one answered old asked)

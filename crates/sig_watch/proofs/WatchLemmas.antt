@@ -1,5 +1,5 @@
 -- Links that came and went back are a watch.
-use Rattle.std.proofs.Common.{◌≡◌, ◌∙◌, ℕ, ◌+◌, ◌≤◌, zero, suc, List, [], ◌∷◌, ◌++◌, Option, Some, None, refl, sym, subst, ap, arith, append-nil, length-append}
+use Rattle.std.proofs.Common.{◌≡◌, ◌∙◌, ℕ, ◌+◌, ◌≤◌, zero, suc, List, [], ◌∷◌, ◌++◌, Option, Some, None, refl, sym, subst, ap, arith, length-append}
 use Rattle.std.specs.Prelude.{IfSome, length}
 use Rattle.sig_links.specs.Told.{Lends, Served, TakesBack, served_of, with_last}
 use Rattle.sig_links.specs.Views.{DoorView}

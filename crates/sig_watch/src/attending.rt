@@ -1,6 +1,6 @@
 //! A whole watch of a door.
 
-ghost use Rattle.std.specs.Prelude.{◌≡◌, All, [], length, map, vec_len};
+ghost use Rattle.std.specs.Prelude.{◌≡◌, [], length, vec_len};
 ghost use Rattle.std.specs.Thread.{IsSync};
 ghost use Rattle.sig_watch.specs.Attending.{Attends};
 ghost use Rattle.sig_watch.specs.Passing.{HaltsSo, LetsIn};
@@ -9,7 +9,7 @@ use crate::accepting::accept_all;
 use crate::course::Course;
 use crate::endings::Endings;
 use crate::returning::give_all_back;
-use crate::visit::{Comes, Visit};
+use crate::visit::Comes;
 use crate::{Host, Room};
 use sig_json::Items;
 use sig_links::{Door, Link, Side};

@@ -1,6 +1,6 @@
 //! Links that have ended go back to their door.
 
-ghost use Rattle.std.specs.Prelude.{◌≡◌, ◌≤◌, ◌<◌, ◌+◌, All, [], length, map, vec_len};
+ghost use Rattle.std.specs.Prelude.{◌≡◌, ◌<◌, ◌+◌, All, [], length, map, vec_len};
 ghost use Rattle.sig_watch.specs.Happening.{moment, open_link};
 ghost use Rattle.sig_watch.specs.Passing.{Passes};
 

@@ -1,4 +1,4 @@
-use Rattle.std.proofs.Common.{◌≡◌, ◌∙◌, ℕ, arith, subst}
+use Rattle.std.proofs.Common.{ℕ, arith, subst}
 use Rattle.sig_watch.specs.Passing.{LetsIn}
 use Rattle.sig_watch.proofs.PassLemmas.{after, goes_on, joined, lets_more, lets_none, stays}
 use Rattle.sig_watch.proofs.accepting.accept_all.Goals as goal

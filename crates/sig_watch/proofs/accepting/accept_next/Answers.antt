@@ -1,5 +1,4 @@
-use Rattle.std.proofs.Common.{◌≡◌, ◌+◌, ◌++◌, ◌∷◌, ◌∙◌, [], map, length, refl, sym, arith, None, Some, length-append}
-use Rattle.std.proofs.lemmas.List.{length-map}
+use Rattle.std.proofs.Common.{◌∙◌, refl, sym, None, Some}
 use Rattle.sig_serving.specs.declared.stop.Stop.TheVariants.{Shut, Failed}
 use Rattle.sig_watch.specs.Happening.{open_link}
 use Rattle.sig_watch.proofs.AcceptLemmas.{gives, of_link, of_shut, of_waited, view_faulty, view_same}

@@ -1,4 +1,4 @@
-use Rattle.std.proofs.Common.{◌≡◌, ◌+◌, ◌++◌, ◌∷◌, [], map, refl, sym, subst}
+use Rattle.std.proofs.Common.{◌+◌, [], refl, sym, subst}
 use Rattle.std.proofs.lemmas.List.{append-nil}
 use Rattle.sig_watch.specs.Happening.{OpenLink, open_link}
 use Rattle.sig_watch.specs.Returning.{IsBack}

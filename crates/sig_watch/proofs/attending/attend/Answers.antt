@@ -1,4 +1,4 @@
-use Rattle.std.proofs.Common.{◌≡◌, ◌∙◌, List, ap, sym, subst}
+use Rattle.std.proofs.Common.{◌∙◌, List, ap, sym, subst}
 use Rattle.sig_watch.specs.Attending.{Attends}
 use Rattle.sig_watch.proofs.attending.attend.Goals as goal
 

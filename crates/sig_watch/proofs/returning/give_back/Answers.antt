@@ -1,5 +1,4 @@
 use Rattle.std.proofs.Common.{◌≡◌, map, refl, sym, subst}
-use Rattle.sig_links.specs.Views.{DoorView}
 use Rattle.sig_watch.specs.Happening.{IsWithout, OpenLink, open_link}
 use Rattle.sig_watch.specs.Returning.{IsBack}
 use Rattle.sig_watch.specs.Sights.{Sight}

@@ -1,4 +1,4 @@
-use Rattle.std.proofs.Common.{◌≡◌, subst}
+use Rattle.std.proofs.Common.{subst}
 use Rattle.sig_serving.specs.Stops.{is_shut}
 use Rattle.sig_watch.specs.Attending.{Attends}
 use Rattle.sig_watch.proofs.EndLemmas.{handed_back, of_node, why_ended}
