@@ -90,6 +90,8 @@ fn run_watch<R: Threads + Wait + Sync, D: Disk + Send, A: Door>(
             node,
             end: Some(ServeEnd::StoreFailed),
         },
+        // Its node isn't broken, so the run goes on.
+        WatchEnd::Halted { node, report: _ } => Watched { node, end: None },
         WatchEnd::Disagree {
             node,
             differ,

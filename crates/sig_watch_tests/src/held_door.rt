@@ -1,34 +1,45 @@
 //! A door that gives a few held links.
 
-use crate::held_link::{HeldLink, Plan};
+use crate::held_link::{Board, HeldLink, Plan};
 use crate::still_side::StillSide;
 use sig_json::Bytes;
 use sig_links::{Accepted, Door, FaultCount};
 use sig_outside::Failed;
 use std::alloc::Global;
-use std::sync::atomic::AtomicU64;
 
 /// A door that gives links by these plans, the last one first, and keeps what was written to them.
 #[derive(Drop)]
 pub struct HeldDoor<'a> {
     alloc: Global,
-    answered: &'a AtomicU64,
-    plans: Vec<Plan>,
-    /// What was written to each, in the order in which they came back.
-    pub written: Vec<Bytes>,
+    board: &'a Board,
+    /// What it has not given yet.
+    pub plans: Vec<Plan>,
+    written: Vec<Bytes>,
     faults: FaultCount,
 }
 
 impl<'a> HeldDoor<'a> {
     /// A door of these plans.
-    pub fn new(alloc: Global, answered: &'a AtomicU64, plans: Vec<Plan>) -> HeldDoor<'a> {
+    pub fn new(alloc: Global, board: &'a Board, plans: Vec<Plan>) -> HeldDoor<'a> {
         HeldDoor {
             alloc,
-            answered,
+            board,
             plans,
             written: Vec::new(alloc),
             faults: FaultCount::new(),
         }
+    }
+
+    /// What was written to each, in the order in which they came back.
+    pub fn into_written(self) -> Vec<Bytes> {
+        let HeldDoor {
+            alloc: _,
+            board: _,
+            plans: _,
+            written,
+            faults: _,
+        } = self;
+        written
     }
 }
 
@@ -45,10 +56,13 @@ impl<'a> Door for HeldDoor<'a> {
 
     fn accept(&mut self) -> Result<Accepted<HeldLink<'a>, StillSide<'a>>, Failed> {
         match self.plans.pop() {
-            Some(plan) => Ok(Accepted::Link {
-                link: HeldLink::new(self.alloc, self.answered, plan),
-                side: StillSide::new(),
-            }),
+            Some(plan) => {
+                let _ = self.board.waits_for_ends(plan.after);
+                Ok(Accepted::Link {
+                    link: HeldLink::new(self.alloc, self.board, plan),
+                    side: StillSide::new(),
+                })
+            }
             None => Ok(Accepted::Shut),
         }
     }
@@ -56,4 +70,6 @@ impl<'a> Door for HeldDoor<'a> {
     fn back(&mut self, link: HeldLink<'a>, _side: StillSide<'a>) {
         let _ = self.written.push(link.into_written());
     }
+
+    fn hurry(&mut self) {}
 }

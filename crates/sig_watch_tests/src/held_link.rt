@@ -1,4 +1,4 @@
-//! A link whose request comes in two parts, the second once another link was answered.
+//! A link whose request comes in two parts, the second once other links have come so far.
 
 ghost use Rattle.std.specs.Prelude.{◌≡◌, ◌+◌, ◌-◌, ◌^◌, min};
 
@@ -9,24 +9,79 @@ use std::alloc::Global;
 use std::sync::atomic::{AtomicU64, Ordering};
 use std::thread::yield_now;
 
-/// How often a held link yields before it gives up.
+/// How often one that waits yields before it gives up.
 const TURNS: u64 = 10_000_000;
 
-/// What a link will give, and whether it waits between both parts.
+/// What a link waits for before the rest of its request comes.
+#[derive(Clone, Copy)]
+pub enum Hold {
+    Nothing,
+    /// So many links, itself among them, have given the first part of their request.
+    Begun(u64),
+    /// So many links were answered with a status of success, and have ended.
+    Answered(u64),
+}
+
+/// What a link will give, and when.
 #[derive(Drop)]
 pub struct Plan {
     /// The first part of a request.
     pub head: &'static [u8],
     /// The rest of it.
     pub body: &'static [u8],
-    /// Whether the rest comes only once another link was answered.
-    pub is_held: bool,
+    /// What it waits for between both parts.
+    pub hold: Hold,
+    /// How many links have ended before it comes to the door.
+    pub after: u64,
 }
 
-/// A link over a shared word: 1 once a link was answered with a status of success. It tells nothing of its bytes.
+/// How far the links of a door have come.
+#[derive(Drop)]
+pub struct Board {
+    begun: AtomicU64,
+    answered: AtomicU64,
+    ended: AtomicU64,
+}
+
+impl Board {
+    /// None has come.
+    pub fn new() -> Board {
+        Board {
+            begun: AtomicU64::new(0),
+            answered: AtomicU64::new(0),
+            ended: AtomicU64::new(0),
+        }
+    }
+
+    /// Waits until so many links have ended, for a while, and says whether they have.
+    pub fn waits_for_ends(&self, count: u64) -> bool {
+        reaches(&self.ended, count)
+    }
+
+    fn waits_for(&self, hold: &Hold) -> bool {
+        match hold {
+            Hold::Nothing => true,
+            Hold::Begun(count) => reaches(&self.begun, *count),
+            Hold::Answered(count) => reaches(&self.answered, *count),
+        }
+    }
+}
+
+// Waits until a number is this or more, for a while, and says whether it is.
+fn reaches(number: &AtomicU64, least: u64) -> bool {
+    for _ in 0..TURNS {
+        if number.load(Ordering::SeqCst) >= least {
+            return true;
+        }
+        yield_now();
+    }
+    false
+}
+
+/// A link that others may wait for. It tells nothing of its bytes.
 #[derive(Drop)]
 pub struct HeldLink<'a> {
-    answered: &'a AtomicU64,
+    board: &'a Board,
     plan: Plan,
     given: usize,
     written: Bytes,
@@ -36,11 +91,11 @@ pub struct HeldLink<'a> {
 
 impl<'a> HeldLink<'a> {
     /// A link by this plan.
-    pub fn new(alloc: Global, answered: &'a AtomicU64, plan: Plan) -> HeldLink<'a>
+    pub fn new(alloc: Global, board: &'a Board, plan: Plan) -> HeldLink<'a>
         ensures { (result.reads ≡ 0) × (result.writes ≡ 0) }
     {
         HeldLink {
-            answered,
+            board,
             plan,
             given: 0,
             written: Bytes::new(alloc),
@@ -59,7 +114,7 @@ impl<'a> HeldLink<'a> {
     /// What was written to it.
     pub fn into_written(self) -> Bytes {
         let HeldLink {
-            answered: _,
+            board: _,
             plan: _,
             given: _,
             written,
@@ -69,23 +124,12 @@ impl<'a> HeldLink<'a> {
         written
     }
 
-    // Waits until another link was answered, and says whether it was.
-    fn waits(&self) -> bool {
-        for _ in 0..TURNS {
-            if self.answered.load(Ordering::SeqCst) == 1 {
-                return true;
-            }
-            yield_now();
-        }
-        false
-    }
-
     // What it gives next, or nothing where it waited in vain.
     fn next(&self) -> Option<&[u8]> {
         if self.given < self.plan.head.len() {
             return self.plan.head.get(self.given..);
         }
-        if self.plan.is_held && !self.waits() {
+        if !self.board.waits_for(&self.plan.hold) {
             return None;
         }
         self.plan.body.get(self.given - self.plan.head.len()..)
@@ -109,7 +153,12 @@ impl<'a> Source for HeldLink<'a> {
         for i in 0..count {
             buf[i] = rest[i];
         }
-        self.given = self.given.saturating_add(count);
+        let had = self.given;
+        self.given = had.saturating_add(count);
+        let head = self.plan.head.len();
+        if had < head && head <= self.given {
+            self.board.begun.fetch_add(1, Ordering::SeqCst);
+        }
         Ok(count)
     }
 }
@@ -138,11 +187,12 @@ impl<'a> Link for HeldLink<'a> {
 
     ghost dialled = { λ l. None };
 
-    // One that was answered with a status of success lets the other go on.
+    // Others may wait for it.
     fn finish(&mut self) {
         if self.written.as_slice().starts_with(b"HTTP/1.1 20") {
-            self.answered.store(1, Ordering::SeqCst);
+            self.board.answered.fetch_add(1, Ordering::SeqCst);
         }
+        self.board.ended.fetch_add(1, Ordering::SeqCst);
     }
 
     ghost beside_reads = { λ l. refl };

@@ -9,6 +9,7 @@ pub fn outcome_of<N, G: Drop>(end: WatchEnd<N, G>) -> (N, Option<Report<G>>) {
         WatchEnd::Done { node, report } => (node, Some(report)),
         WatchEnd::DoorFault { node, report: _ } => (node, None),
         WatchEnd::Broken { node, report: _ } => (node, None),
+        WatchEnd::Halted { node, report: _ } => (node, None),
         WatchEnd::Disagree {
             node,
             differ: _,
@@ -18,7 +19,14 @@ pub fn outcome_of<N, G: Drop>(end: WatchEnd<N, G>) -> (N, Option<Report<G>>) {
     }
 }
 
-/// Whether an answer has this text.
-pub fn has_text(answer: &Bytes, text: &str) -> bool {
-    str::from_utf8(answer.as_slice()).is_ok_and(|said| said.contains(text))
+/// Whether an answer has both texts.
+pub fn has_texts(answers: &[Bytes], one: &str, two: &str) -> bool {
+    answers.iter().any(|answer| {
+        str::from_utf8(answer.as_slice()).is_ok_and(|said| said.contains(one) && said.contains(two))
+    })
+}
+
+/// Whether each of the answers has a status of success.
+pub fn all_succeed(answers: &[Bytes]) -> bool {
+    answers.iter().all(|answer| answer.as_slice().starts_with(b"HTTP/1.1 20"))
 }

@@ -1,19 +1,22 @@
-//! A receiver answers a link while another one is held: a token that is pushed meanwhile is known to a check whose body comes
+//! A receiver answers links while another one is held: a token that is pushed meanwhile is known to a check whose body comes
 //! after that (RFC 8935, section 2).
 
 use crate::held_door::HeldDoor;
-use crate::held_link::Plan;
-use crate::outcome::{has_text, outcome_of};
+use crate::held_link::{Board, Hold, Plan};
+use crate::outcome::{all_succeed, has_texts, outcome_of};
 use crate::stores::{Files, store};
 use crate::watched::watch_receiver;
-use sig_json::Memory;
+use sig_json::{Bytes, Memory};
 use sig_outside::MemDisk;
 use sig_rxnode::{RxNode, RxRules};
 use sig_rxsettings::{RxSettings, rx_settings};
 use sig_txnode::LoadRefused;
+use sig_watch::WatchEnd;
 use std::alloc::Global;
-use std::sync::atomic::AtomicU64;
+use std::ops::Range;
+use std::sync::Wait;
 use std::test::Fail;
+use std::thread::Threads;
 
 const SETTINGS: &[u8] =
     br#"{"audience":"https://rp.example","listen":"0.0.0.0:8081","reader":"r","issuers":[{"iss":"https://idp.example","keys":[{"k":"MDEyMzQ1Njc4OWFiY2RlZjAxMjM0NTY3ODlhYmNkZWY"}]}],"principals":[{"bearer":"b","iss":"https://idp.example"}]}"#;
@@ -40,9 +43,10 @@ fn rules(alloc: Global) -> Result<RxRules, Memory> {
     }
 }
 
-fn node(alloc: Global) -> Result<RxNode<MemDisk>, Memory> {
+// A node over disks of which these calls fail.
+fn node(alloc: Global, failing: Range<u64>) -> Result<RxNode<MemDisk>, Memory> {
     let rules = rules(alloc)?;
-    let Files { a, b } = store(alloc, b'R')?;
+    let Files { a, b } = store(alloc, b'R', failing)?;
     match RxNode::load(alloc, a, b, rules) {
         Ok(node) => Ok(node),
         Err(
@@ -55,31 +59,112 @@ fn node(alloc: Global) -> Result<RxNode<MemDisk>, Memory> {
     }
 }
 
+fn check(hold: Hold) -> Plan {
+    Plan {
+        head: CHECK_HEAD,
+        body: CHECK_BODY,
+        hold,
+        after: 0,
+    }
+}
+
+// A push, which comes once so many links have ended.
+fn push(after: u64) -> Plan {
+    Plan {
+        head: PUSH_HEAD,
+        body: TOKEN,
+        hold: Hold::Nothing,
+        after,
+    }
+}
+
+// What is written to the links of these plans, the last one first, by a watch that is done with all.
+fn written_to<R: Threads + Wait + Sync>(
+    alloc: Global,
+    rt: &R,
+    plans: Vec<Plan>,
+) -> Result<Vec<Bytes>, Memory> {
+    let count = plans.len();
+    let node = node(alloc, 0..0)?;
+    if node.broken_at().is_some() {
+        let _ = node.into_disks();
+        return Err(Memory);
+    }
+    let board = Board::new();
+    let mut door = HeldDoor::new(alloc, &board, plans);
+    let end = watch_receiver(alloc, rt, node, &mut door);
+    let (node, report) = outcome_of(end);
+    let _ = node.into_disks();
+    match report {
+        Some(report) if report.shut && report.links.as_slice().len() == count => {
+            Ok(door.into_written())
+        }
+        _ => Err(Memory),
+    }
+}
+
 #[test]
 fn a_check_that_is_held_knows_what_is_pushed_meanwhile(rt: HostRuntime) -> Result<(), Fail> {
     let alloc = rt.alloc();
-    let answered = AtomicU64::new(0);
     let mut plans = Vec::new(alloc);
-    plans.push(Plan {
-        head: PUSH_HEAD,
-        body: TOKEN,
-        is_held: false,
-    })?;
-    plans.push(Plan {
-        head: CHECK_HEAD,
-        body: CHECK_BODY,
-        is_held: true,
-    })?;
-    let mut door = HeldDoor::new(alloc, &answered, plans);
-    let node = node(alloc)?;
+    plans.push(push(0))?;
+    plans.push(check(Hold::Answered(1)))?;
+    let written = written_to(alloc, &rt, plans)?;
+    assert!(rt; written.len() == 2 && has_texts(written.as_slice(), "200 OK", r#""known":true"#));
+    Ok(())
+}
+
+#[test]
+fn two_checks_that_wait_for_each_other_are_answered(rt: HostRuntime) -> Result<(), Fail> {
+    let alloc = rt.alloc();
+    let mut plans = Vec::new(alloc);
+    plans.push(check(Hold::Begun(2)))?;
+    plans.push(check(Hold::Begun(2)))?;
+    let written = written_to(alloc, &rt, plans)?;
+    assert!(rt; written.len() == 2 && all_succeed(written.as_slice()));
+    Ok(())
+}
+
+#[test]
+fn a_check_that_stays_open_keeps_none_out(rt: HostRuntime) -> Result<(), Fail> {
+    let alloc = rt.alloc();
+    let mut plans = Vec::new(alloc);
+    for _ in 0..199 {
+        plans.push(check(Hold::Nothing))?;
+    }
+    plans.push(check(Hold::Answered(199)))?;
+    let written = written_to(alloc, &rt, plans)?;
+    assert!(rt; written.len() == 200 && all_succeed(written.as_slice()));
+    Ok(())
+}
+
+// Each push after the first is given once that one has ended, which breaks the node: the host was asked about the second
+// before that at most, and lets the third in no more.
+#[test]
+fn a_broken_node_is_asked_for_no_further_link(rt: HostRuntime) -> Result<(), Fail> {
+    let alloc = rt.alloc();
+    let mut plans = Vec::new(alloc);
+    plans.push(push(1))?;
+    plans.push(push(1))?;
+    plans.push(push(0))?;
+    let node = node(alloc, 2..200)?;
     if node.broken_at().is_some() {
         let _ = node.into_disks();
         return Err(Memory.into());
     }
-    let end = watch_receiver(alloc, &rt, node, &mut door);
-    let (node, report) = outcome_of(end);
-    let _ = node.into_disks();
-    assert!(rt; report.is_some_and(|report| report.shut && report.links.as_slice().len() == 2));
-    assert!(rt; door.written.len() == 2 && has_text(&door.written[0], r#""known":true"#));
+    let board = Board::new();
+    let mut door = HeldDoor::new(alloc, &board, plans);
+    let broken = match watch_receiver(alloc, &rt, node, &mut door) {
+        WatchEnd::Broken { node, report } => {
+            let _ = node.into_disks();
+            !report.shut && report.links.as_slice().len() + door.plans.len() == 3
+        }
+        end => {
+            let (node, _) = outcome_of(end);
+            let _ = node.into_disks();
+            false
+        }
+    };
+    assert!(rt; broken && !door.plans.is_empty());
     Ok(())
 }

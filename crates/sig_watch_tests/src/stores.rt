@@ -3,6 +3,7 @@
 use sig_json::{Bytes, Items, Memory};
 use sig_outside::MemDisk;
 use std::alloc::Global;
+use std::ops::Range;
 
 // The first file of a transmitter's store without a record.
 const EMPTY: [u8; 36] = [
@@ -19,16 +20,20 @@ pub struct Files {
     pub b: MemDisk,
 }
 
-fn disk(alloc: Global, bytes: &[u8]) -> Result<MemDisk, Memory> {
-    let none = Items::of(Vec::new(alloc));
-    Ok(MemDisk::new(alloc, Bytes::of(alloc, bytes)?, none))
+// A disk of which these calls fail, by their numbers from 0.
+fn disk(alloc: Global, bytes: &[u8], failing: Range<u64>) -> Result<MemDisk, Memory> {
+    let mut numbers = Vec::new(alloc);
+    for number in failing {
+        numbers.push(number)?;
+    }
+    Ok(MemDisk::new(alloc, Bytes::of(alloc, bytes)?, Items::of(numbers)))
 }
 
-/// A store of this kind without a record, `T` or `R`.
-pub fn store(alloc: Global, kind: u8) -> Result<Files, Memory> {
+/// A store of this kind without a record, `T` or `R`, of whose two disks these calls fail.
+pub fn store(alloc: Global, kind: u8, failing: Range<u64>) -> Result<Files, Memory> {
     let mut bytes = EMPTY;
     bytes[6] = kind;
-    let b = disk(alloc, b"\0")?;
-    let a = disk(alloc, &bytes)?;
+    let b = disk(alloc, b"\0", failing.start..failing.end)?;
+    let a = disk(alloc, &bytes, failing)?;
     Ok(Files { a, b })
 }

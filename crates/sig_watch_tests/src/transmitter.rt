@@ -1,22 +1,23 @@
-//! A transmitter answers a link while another one is held: what is published meanwhile is in the answer to a poll whose body
+//! A transmitter answers links while another one is held: what is published meanwhile is in the answer to a poll whose body
 //! comes after that (RFC 8936, section 2).
 
 ghost use Rattle.std.specs.Prelude.{IfOk};
 ghost use Rattle.sig_calls.specs.Proper.{IsProperCall, IsProperRules};
 
 use crate::held_door::HeldDoor;
-use crate::held_link::Plan;
-use crate::outcome::{has_text, outcome_of};
+use crate::held_link::{Board, Hold, Plan};
+use crate::outcome::{all_succeed, has_texts, outcome_of};
 use crate::stores::{Files, store};
 use crate::watched::watch_transmitter;
-use sig_json::{Memory, Text};
+use sig_json::{Bytes, Memory, Text};
 use sig_outside::MemDisk;
 use sig_terms::{Call, Rules, Want};
 use sig_txnode::{LoadRefused, TxNode};
 use sig_txsettings::{TxSettings, tx_settings};
 use std::alloc::Global;
-use std::sync::atomic::AtomicU64;
+use std::sync::Wait;
 use std::test::Fail;
+use std::thread::Threads;
 
 const SETTINGS: &[u8] =
     br#"{"issuer":"https://idp.example","base":"http://tx.example","listen":"127.0.0.1:8080","operator":"op","default_subjects":"ALL","min_verification_interval":60,"key":{"k":"MDEyMzQ1Njc4OWFiY2RlZjAxMjM0NTY3ODlhYmNkZWY","kid":"k1"},"clients":[{"aud":["https://rp.example"],"bearer":"acme-1","name":"acme"}]}"#;
@@ -63,7 +64,7 @@ fn creation(alloc: Global) -> Result<Call, Memory>
 fn node(alloc: Global) -> Result<TxNode<MemDisk>, Memory> {
     let creation = creation(alloc)?;
     let rules = rules(alloc)?;
-    let Files { a, b } = store(alloc, b'T')?;
+    let Files { a, b } = store(alloc, b'T', 0..0)?;
     match TxNode::load(alloc, a, b, rules) {
         Ok(node) => {
             let mut node = node;
@@ -85,31 +86,76 @@ fn node(alloc: Global) -> Result<TxNode<MemDisk>, Memory> {
     }
 }
 
+fn poll(hold: Hold) -> Plan {
+    Plan {
+        head: POLL_HEAD,
+        body: POLL_BODY,
+        hold,
+        after: 0,
+    }
+}
+
+// What is written to the links of these plans, the last one first, by a watch that is done with all.
+fn written_to<R: Threads + Wait + Sync>(
+    alloc: Global,
+    rt: &R,
+    plans: Vec<Plan>,
+) -> Result<Vec<Bytes>, Memory> {
+    let count = plans.len();
+    let node = node(alloc)?;
+    if node.broken_at().is_some() {
+        let _ = node.into_disks();
+        return Err(Memory);
+    }
+    let board = Board::new();
+    let mut door = HeldDoor::new(alloc, &board, plans);
+    let end = watch_transmitter(alloc, rt, node, &mut door);
+    let (node, report) = outcome_of(end);
+    let _ = node.into_disks();
+    match report {
+        Some(report) if report.shut && report.links.as_slice().len() == count => {
+            Ok(door.into_written())
+        }
+        _ => Err(Memory),
+    }
+}
+
 #[test]
 fn a_poll_that_is_held_lists_what_is_published_meanwhile(rt: HostRuntime) -> Result<(), Fail> {
     let alloc = rt.alloc();
-    let answered = AtomicU64::new(0);
     let mut plans = Vec::new(alloc);
     plans.push(Plan {
         head: PUBLISH_HEAD,
         body: PUBLISH_BODY,
-        is_held: false,
+        hold: Hold::Nothing,
+        after: 0,
     })?;
-    plans.push(Plan {
-        head: POLL_HEAD,
-        body: POLL_BODY,
-        is_held: true,
-    })?;
-    let mut door = HeldDoor::new(alloc, &answered, plans);
-    let node = node(alloc)?;
-    if node.broken_at().is_some() {
-        let _ = node.into_disks();
-        return Err(Memory.into());
+    plans.push(poll(Hold::Answered(1)))?;
+    let written = written_to(alloc, &rt, plans)?;
+    assert!(rt; written.len() == 2 && has_texts(written.as_slice(), TOKEN, r#""sets""#));
+    Ok(())
+}
+
+#[test]
+fn two_polls_that_wait_for_each_other_are_answered(rt: HostRuntime) -> Result<(), Fail> {
+    let alloc = rt.alloc();
+    let mut plans = Vec::new(alloc);
+    plans.push(poll(Hold::Begun(2)))?;
+    plans.push(poll(Hold::Begun(2)))?;
+    let written = written_to(alloc, &rt, plans)?;
+    assert!(rt; written.len() == 2 && all_succeed(written.as_slice()));
+    Ok(())
+}
+
+#[test]
+fn a_poll_that_stays_open_keeps_none_out(rt: HostRuntime) -> Result<(), Fail> {
+    let alloc = rt.alloc();
+    let mut plans = Vec::new(alloc);
+    for _ in 0..199 {
+        plans.push(poll(Hold::Nothing))?;
     }
-    let end = watch_transmitter(alloc, &rt, node, &mut door);
-    let (node, report) = outcome_of(end);
-    let _ = node.into_disks();
-    assert!(rt; report.is_some_and(|report| report.shut && report.links.as_slice().len() == 2));
-    assert!(rt; door.written.len() == 2 && has_text(&door.written[0], TOKEN));
+    plans.push(poll(Hold::Answered(199)))?;
+    let written = written_to(alloc, &rt, plans)?;
+    assert!(rt; written.len() == 200 && all_succeed(written.as_slice()));
     Ok(())
 }

@@ -41,6 +41,11 @@ returns-in-Broken-clause-stops g c =
     let watch = watch_is g.D.Disk.told g.D.Disk.seen g.D.Disk.may_leave c.args.node c.in-Broken.node c.in-Broken.report _ _ _ None c.in-Broken.ensures.follows c.in-Broken.ensures.history c.in-Broken.ensures.links c.in-Broken.ensures.links.ends.0 in
     stops_with (IsWatch c.args.node.rules) tells_of StoreFailed _ _ watch.0 tt (λ memory. absurd cc) (λ done. absurd cc) watch.3 (agree_one tells_of watch.0 watch.2)
 
+pub returns-in-Halted-clause-goes_on : goal.returns-in-Halted-clause-goes_on
+returns-in-Halted-clause-goes_on g c =
+    let watch = watch_is g.D.Disk.told g.D.Disk.seen g.D.Disk.may_leave c.args.node c.in-Halted.node c.in-Halted.report _ _ _ None c.in-Halted.ensures.follows c.in-Halted.ensures.history c.in-Halted.ensures.links c.in-Halted.ensures.links.ends.0 in
+    goes_on (IsWatch c.args.node.rules) tells_of _ _ watch.0 watch.3 watch.2
+
 pub returns-in-Disagree-clause-stops : goal.returns-in-Disagree-clause-stops
 returns-in-Disagree-clause-stops g c =
     let watch = watch_is g.D.Disk.told g.D.Disk.seen g.D.Disk.may_leave c.args.node c.in-Disagree.node c.in-Disagree.report _ _ _ (Some c.in-Disagree.differ) c.in-Disagree.ensures.follows c.in-Disagree.ensures.history c.in-Disagree.ensures.links c.in-Disagree.ensures.links.ends in
