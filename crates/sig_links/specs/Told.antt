@@ -1,7 +1,7 @@
 -- What links, sides, doors and the outside tell of what they will give, of what they were given back, and of their counts.
 use Rattle.std.specs.Prelude.{◌≡◌, ℕ, zero, suc, ◌+◌, ◌-◌, ◌^◌, ◌≤◌, min, List, [], ◌∷◌, ◌++◌, Bool, true, false, Option, Some, None, IfSome}
 use Rattle.sig_links.specs.declared.accepted.Accepted.{Accepted}
-use Rattle.sig_links.specs.declared.accepted.Accepted.TheVariants.{Link, Shut}
+use Rattle.sig_links.specs.declared.accepted.Accepted.TheVariants.{Link, Shut, Waited}
 
 -- a link that will be given: the bytes that it gives, and whether one of its calls is to fail
 pub record LinkPlan : Type 0 where
@@ -134,11 +134,19 @@ IsShut coming = IfSome coming (λ list. list ≡ [])
 abbrev pub IfLink : {L S : Type 0} → Accepted L S → (L → S → Type 0) → Type 0
 IfLink (Link link side) holds = holds link side
 IfLink Shut holds = Unit {0}
+IfLink Waited holds = Unit {0}
 
--- this holds where an accept gave none
+-- this holds where an accept said that none will come
 abbrev pub IfShut : {L S : Type 0} → Accepted L S → Type 0 → Type 0
 IfShut (Link link side) holds = Unit {0}
 IfShut Shut holds = holds
+IfShut Waited holds = Unit {0}
+
+-- this holds where no link came in the time that an accept waits
+abbrev pub IfWaited : {L S : Type 0} → Accepted L S → Type 0 → Type 0
+IfWaited (Link link side) holds = Unit {0}
+IfWaited Shut holds = Unit {0}
+IfWaited Waited holds = holds
 
 -- the next of the doors that are told was handed out
 abbrev pub OpensNext : Option (List (List Coming)) → Option (List (List Coming)) → Option (List Coming) → Type 0

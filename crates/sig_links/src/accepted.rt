@@ -5,4 +5,6 @@ pub enum Accepted<L, S> {
     Link { link: L, side: S },
     /// No further link will come.
     Shut,
+    /// No link came in the time that an accept waits.
+    Waited,
 }

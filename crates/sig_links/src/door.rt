@@ -1,7 +1,7 @@
 ghost use Rattle.std.specs.Prelude.{◌≡◌, None, IfOk, OnErr};
 ghost use Rattle.sig_outside.specs.Causes.{HasCause};
 ghost use Rattle.sig_links.specs.Views.{DoorView};
-ghost use Rattle.sig_links.specs.Told.{AcceptsNext, Begins, Coming, IfLink, IfShut, IsShut, Lends, LinkPlan, Served, TakesBack, served_of};
+ghost use Rattle.sig_links.specs.Told.{AcceptsNext, Begins, Coming, IfLink, IfShut, IfWaited, IsShut, Lends, LinkPlan, Served, TakesBack, served_of};
 
 use crate::{Accepted, Link, Side};
 use sig_outside::Failed;
@@ -21,11 +21,13 @@ pub trait Door {
     ghost plan: { Self.L → LinkPlan };
 
     /// The next link, with its side. Nothing is written to the link and nothing is sent by the side yet, and neither has met
-    /// a fault. `Shut` comes where no further link will come. `Failed` raises the count by one, and takes none of the links
+    /// a fault. `Shut` comes where no further link will come, and `Waited` where none came in the time that an accept waits,
+    /// which a door never answers that tells what is coming. `Failed` raises the count by one, and takes none of the links
     /// that are coming.
     fn accept(&mut self) -> Result<Accepted<Self::L, Self::S>, Failed>
         ensures next { IfOk result (λ answer. IfLink answer (λ link side. AcceptsNext (view self.old).coming (view self.new).coming (plan link) (Self.L.left link) (Self.S.view side).ahead (Self.S.view side).times)) }
         ensures shut { IfOk result (λ answer. IfShut answer (IsShut (view self.old).coming × ((view self.new).coming ≡ (view self.old).coming) × ((view self.new).out ≡ (view self.old).out))) }
+        ensures waited { IfOk result (λ answer. IfWaited answer (((view self.old).coming ≡ None) × ((view self.new).coming ≡ None) × ((view self.new).out ≡ (view self.old).out))) }
         ensures none { OnErr result (((view self.new).coming ≡ (view self.old).coming) × ((view self.new).out ≡ (view self.old).out)) }
         ensures begins { IfOk result (λ answer. IfLink answer (λ link side. Begins (view self.old).served (Self.L.written link) × Begins (view self.old).served (Self.S.view side).sent)) }
         ensures whole { IfOk result (λ answer. IfLink answer (λ link side. (Self.L.Source.faults link ≡ 0) × (Self.L.Sink.faults link ≡ 0) × ((Self.S.view side).faults ≡ 0))) }
@@ -39,4 +41,8 @@ pub trait Door {
         ensures back { TakesBack (view self.old).served (view self.new).served (view self.old).out (view self.new).out (served_of (Self.L.written link) (Self.S.view side).sent) }
         ensures others { ((view self.new).coming ≡ (view self.old).coming) × ((view self.new).place ≡ (view self.old).place) }
         ensures faults { (view self.new).faults ≡ (view self.old).faults };
+
+    /// Asks the links that are out to end soon, since none is accepted until they have. It changes nothing that is told.
+    fn hurry(&mut self)
+        ensures { view self.new ≡ view self.old };
 }

@@ -118,4 +118,7 @@ impl Door for MemDoor {
     fn back(&mut self, link: MemLink, side: MemSide) {
         self.lent.take_back(Coming { link, side });
     }
+
+    // A link in memory waits for nobody.
+    fn hurry(&mut self) {}
 }

@@ -1,25 +1,28 @@
 ghost use Rattle.std.specs.Prelude.{◌≡◌, ◌+◌, false, true, min};
 ghost use Rattle.sig_system.specs.Deadlines as spec;
 
-/// How many seconds after it was accepted a link ends, whatever its peer does.
-pub const LINK_SECONDS: u64 = 60;
+/// How many milliseconds after it was accepted a link ends, whatever its peer does.
+pub const LINK_MILLISECONDS: u64 = 60_000;
 
-/// How many seconds after its first byte the rest of a request has to be there.
-pub const REQUEST_SECONDS: u64 = 15;
+/// How many milliseconds after its first byte the rest of a request has to be there.
+pub const REQUEST_MILLISECONDS: u64 = 15_000;
 
-/// How many seconds after a response, or after the link was made, the next request has to begin.
-pub const IDLE_SECONDS: u64 = 15;
+/// How many milliseconds after a response, or after the link was made, the next request has to begin.
+pub const IDLE_MILLISECONDS: u64 = 15_000;
 
-/// How many seconds after its dial a link ends that was dialled.
-pub const EXCHANGE_SECONDS: u64 = 15;
+/// How many milliseconds a link has to end that its door asks to.
+pub const HURRY_MILLISECONDS: u64 = 250;
 
-/// How many seconds a read of a link waits for bytes before it fails.
-pub const READ_SECONDS: u64 = 30;
+/// How many milliseconds after its dial a link ends that was dialled.
+pub const EXCHANGE_MILLISECONDS: u64 = 15_000;
 
-/// How many seconds a write to a link waits for room before it fails.
-pub const WRITE_SECONDS: u64 = 30;
+/// How many milliseconds a read of a link waits for bytes before it fails.
+pub const READ_MILLISECONDS: u64 = 30_000;
 
-// Until when a link may wait for its peer, in whole seconds since it was made. What is due is the first byte of the next
+/// How many milliseconds a write to a link waits for room before it fails.
+pub const WRITE_MILLISECONDS: u64 = 30_000;
+
+// Until when a link may wait for its peer, in milliseconds since it was made. What is due is the first byte of the next
 // request, and once that came the rest of it.
 #[derive(Clone, Copy, Drop)]
 pub struct Deadline {
@@ -29,29 +32,36 @@ pub struct Deadline {
 }
 
 impl Deadline {
-    // Of a link that was just made, and ends after so many seconds.
-    pub fn after(seconds: u64) -> Deadline
-        ensures { result ≡ spec.after seconds }
+    // Of a link that was just made, and ends after so many milliseconds.
+    pub fn after(milliseconds: u64) -> Deadline
+        ensures { result ≡ spec.after milliseconds }
     {
         Deadline {
-            end: seconds,
-            due: IDLE_SECONDS,
+            end: milliseconds,
+            due: IDLE_MILLISECONDS,
             begun: false,
         }
     }
 
-    // How many seconds a read may wait now, where it may wait at all.
-    pub fn for_read(&self, now: u64) -> Option<u64>
-        ensures { result ≡ spec.waits READ_SECONDS (min self.now.end self.now.due) now }
+    // Until when a read may wait that began then.
+    pub fn reads_until(&self, began: u64) -> u64
+        ensures { result ≡ spec.reads_until began self.now }
     {
-        within(READ_SECONDS, self.end.min(self.due), now)
+        until(READ_MILLISECONDS, began, self.end.min(self.due))
     }
 
-    // How many seconds a write may wait now, where it may wait at all.
-    pub fn for_write(&self, now: u64) -> Option<u64>
-        ensures { result ≡ spec.waits WRITE_SECONDS self.now.end now }
+    // Until when a write may wait that began then.
+    pub fn writes_until(&self, began: u64) -> u64
+        ensures { result ≡ spec.writes_until began self.now }
     {
-        within(WRITE_SECONDS, self.end, now)
+        until(WRITE_MILLISECONDS, began, self.end)
+    }
+
+    // The link is asked to end soon.
+    pub fn hurry(&mut self, now: u64)
+        ensures { self.new ≡ spec.hurried now self.old }
+    {
+        self.end = until(HURRY_MILLISECONDS, now, self.end);
     }
 
     // Bytes were read: the first of a request, or further ones of it.
@@ -60,7 +70,7 @@ impl Deadline {
     {
         if !self.begun {
             self.begun = true;
-            self.due = now.saturating_add(REQUEST_SECONDS);
+            self.due = now.saturating_add(REQUEST_MILLISECONDS);
         }
     }
 
@@ -69,8 +79,15 @@ impl Deadline {
         ensures { self.new ≡ spec.answered now self.old }
     {
         self.begun = false;
-        self.due = now.saturating_add(IDLE_SECONDS);
+        self.due = now.saturating_add(IDLE_MILLISECONDS);
     }
+}
+
+// So many milliseconds from then, or an earlier moment.
+fn until(limit: u64, began: u64, moment: u64) -> u64
+    ensures { result ≡ spec.until limit began moment }
+{
+    began.saturating_add(limit).min(moment)
 }
 
 // How long may be waited under this limit until then.

@@ -13,13 +13,15 @@
 //! that isn't empty is counted as a stall. Over a reader or writer that tells its bytes, as one in memory, a call gives or
 //! takes exactly those. A read or write that the system interrupts is tried again, and is no fault. Reads and writes of files
 //! go on after short ones; a sync is of the file's bytes and size; a file is opened so that a second process is refused. A
-//! read and a write of a link, a request, a link as a whole and a dial have limits of time; one that is passed is a fault.
+//! read and a write of a link, a request, a link as a whole and a dial have limits of time; one that is passed is a fault. An
+//! accept waits a second, and a door may ask the links that it gave to end soon.
 //!
 //! Left out: everything of content, since no contract can say what the system gives or takes; that a real disk keeps what it
 //! was asked to sync; and how long it takes to look up the addresses of a name, which has no limit here.
 #![tactic(auto)]
 
 mod again;
+mod bell;
 mod deadline;
 mod file_disk;
 mod outside_fault;
@@ -28,17 +30,20 @@ mod system_outside;
 mod tcp_door;
 mod tcp_link;
 mod tcp_side;
+mod timing;
 mod writer_sink;
 
 pub use again::{read_again, write_again};
 pub use deadline::{
-    EXCHANGE_SECONDS, IDLE_SECONDS, LINK_SECONDS, READ_SECONDS, REQUEST_SECONDS, WRITE_SECONDS,
+    EXCHANGE_MILLISECONDS, HURRY_MILLISECONDS, IDLE_MILLISECONDS, LINK_MILLISECONDS,
+    READ_MILLISECONDS, REQUEST_MILLISECONDS, WRITE_MILLISECONDS,
 };
 pub use file_disk::{FileDisk, OpenFault};
 pub use outside_fault::OutsideFault;
 pub use reader_source::ReaderSource;
 pub use system_outside::SystemOutside;
-pub use tcp_door::{ACCEPT_MILLISECONDS, ACCEPT_TRIES, TcpDoor};
+pub use tcp_door::{ACCEPT_MILLISECONDS, LACK_MILLISECONDS, LACKING_ACCEPTS, TcpDoor};
 pub use tcp_link::{REST_BYTES, REST_MILLISECONDS, REST_READS, TcpLink};
 pub use tcp_side::{DIAL_ADDRESSES, DIAL_SECONDS, TcpSide};
+pub use timing::LOOK_MILLISECONDS;
 pub use writer_sink::WriterSink;

@@ -3,34 +3,48 @@ ghost use Rattle.sig_outside.specs.Causes.{HasCause};
 ghost use Rattle.sig_links.specs.Told.{IfLink, IfShut};
 ghost use Rattle.sig_system.specs.Adapters.{IsOfDoor, pair_of, untold, unused};
 
-use crate::deadline::LINK_SECONDS;
+use crate::bell::Bell;
+use crate::deadline::LINK_MILLISECONDS;
 use crate::{OutsideFault, TcpLink, TcpSide};
+use mio::unix::SourceFd;
+use mio::{Events, Interest, Poll, Token};
 use sig_links::{Accepted, Door, FaultCount};
 use sig_outside::{Failed, Place};
 use std::alloc::Global;
+use std::io;
 use std::io::{Error, ErrorKind};
 use std::marker::Model;
 use std::net::{Net, TcpListener, TcpStream};
+use std::os::fd::AsRawFd;
 use std::rt::Clock;
 use std::time::Duration;
 
-/// How many milliseconds an accept waits before it is tried again where the system lacks something for a while.
-pub const ACCEPT_MILLISECONDS: u64 = 100;
+/// How many milliseconds an accept waits for a link.
+pub const ACCEPT_MILLISECONDS: u64 = 1_000;
 
-/// How often in a row it is tried again: for a minute.
-pub const ACCEPT_TRIES: u32 = 600;
+/// How many milliseconds an accept waits where the system lacks something for a while.
+pub const LACK_MILLISECONDS: u64 = 100;
+
+/// How many accepts in a row may find that the system lacks something, before the next one fails: those of a minute.
+pub const LACKING_ACCEPTS: u32 = 600;
 
 // ENOMEM, ENFILE, EMFILE, EPROTO, ENETDOWN, ENOBUFS on Linux.
 const ACCEPT_ERRORS: [i32; 6] = [12, 23, 24, 71, 100, 105];
 
 /// What listens over TCP. It tells nothing of the links that come, and never answers that none will; it counts the accepts
-/// that failed. `R` is a handle on the network and the clock, as a reference to the runtime.
+/// that failed. An accept waits `ACCEPT_MILLISECONDS` at most. `R` is a handle on the network and the clock, as a reference
+/// to the runtime.
 #[derive(Drop)]
 pub struct TcpDoor<R> {
     listener: TcpListener,
+    poll: Poll,
+    events: Events<Global>,
     place: Place,
     rt: R,
     alloc: Global,
+    bell: Bell,
+    // How many accepts in a row found that the system lacks something.
+    lacking: u32,
     faults: FaultCount,
 }
 
@@ -50,15 +64,22 @@ impl<R: Net<Listener = TcpListener, Stream = TcpStream> + Copy> TcpDoor<R> {
         ensures door { IfOk result (λ door. door ≡ record { place = Some (pair_of place.now); faults = 0 }) }
         ensures why { IfErr result IsOfDoor }
     {
-        let Ok(kept) = place.copy(alloc) else {
+        let (Ok(kept), Ok(events)) = (place.copy(alloc), Events::with_capacity(alloc, 1)) else {
             return Err(OutsideFault::Memory);
         };
-        match TcpListener::bind(&rt, (place.host.as_str(), place.port)) {
-            Ok(listener) => Ok(TcpDoor {
+        let Ok(bell) = Bell::new(alloc) else {
+            return Err(OutsideFault::Memory);
+        };
+        match listening(rt, place) {
+            Ok((listener, poll)) => Ok(TcpDoor {
                 listener,
+                poll,
+                events,
                 place: kept,
                 rt,
                 alloc,
+                bell,
+                lacking: 0,
                 faults: FaultCount::new(),
             }),
             Err(error) if error.kind() == ErrorKind::AddrInUse => Err(OutsideFault::PlaceInUse),
@@ -67,12 +88,76 @@ impl<R: Net<Listener = TcpListener, Stream = TcpStream> + Copy> TcpDoor<R> {
     }
 }
 
+// What listens at this place without blocking, and what waits until a link comes there.
+fn listening<R: Net<Listener = TcpListener, Stream = TcpStream> + Copy>(
+    rt: R,
+    place: &Place,
+) -> io::Result<(TcpListener, Poll)> {
+    let listener = TcpListener::bind(&rt, (place.host.as_str(), place.port))?;
+    listener.set_nonblocking(true)?;
+    let poll = Poll::new(&rt)?;
+    let descriptor = listener.as_raw_fd();
+    poll.registry()
+        .register(&mut SourceFd(&descriptor), Token(0), Interest::READABLE)?;
+    Ok((listener, poll))
+}
+
 impl<R> TcpDoor<R> {
     /// How many accepts failed.
     pub fn faults(&self) -> u64
         ensures { result ≡ self.now.faults }
     {
         self.faults.count()
+    }
+}
+
+impl<R: Clock + Copy> TcpDoor<R> {
+    // The next link, where one comes while an accept waits.
+    fn next_link(&mut self) -> Result<Option<TcpLink<R>>, Failed>
+        ensures link { IfOk result (λ found. IfSome found (λ link. link ≡ unused None)) }
+        ensures same { self.new ≡ self.old }
+    {
+        if let Some(link) = self.waiting_link()? {
+            return Ok(Some(link));
+        }
+        let wait = Duration::from_millis(ACCEPT_MILLISECONDS);
+        if self.poll.poll(&mut self.events, Some(wait)).is_err() {
+            return Err(Failed);
+        }
+        self.waiting_link()
+    }
+
+    // A link that waits to be accepted, if one does.
+    fn waiting_link(&mut self) -> Result<Option<TcpLink<R>>, Failed>
+        ensures link { IfOk result (λ found. IfSome found (λ link. link ≡ unused None)) }
+        ensures same { self.new ≡ self.old }
+    {
+        match accept_link(&self.listener, self.rt, &self.bell) {
+            Ok(link) => {
+                self.lacking = 0;
+                Ok(Some(link))
+            }
+            Err(error) => {
+                self.without_link(&error)?;
+                Ok(None)
+            }
+        }
+    }
+
+    // None waits; or the system lacks something, for a while or for longer.
+    fn without_link(&mut self, error: &Error) -> Result<(), Failed>
+        ensures { self.new ≡ self.old }
+    {
+        if error.kind() == ErrorKind::WouldBlock {
+            self.lacking = 0;
+            return Ok(());
+        }
+        if self.lacking >= LACKING_ACCEPTS || !is_for_a_while(error) {
+            return Err(Failed);
+        }
+        self.lacking += 1;
+        self.rt.sleep(Duration::from_millis(LACK_MILLISECONDS));
+        Ok(())
     }
 }
 
@@ -92,40 +177,49 @@ impl<R: Net<Listener = TcpListener, Stream = TcpStream> + Clock + Copy + Send> D
         ensures place { self.new.place ≡ self.old.place }
         ensures cause { HasCause self.old.faults self.new.faults result }
     {
-        match accept_link(&self.listener, self.rt) {
-            Some(link) => Ok(Accepted::Link {
+        match self.next_link() {
+            Ok(Some(link)) => Ok(Accepted::Link {
                 link,
                 side: TcpSide::new(self.alloc, self.rt),
             }),
-            None => Err(self.faults.raise()),
+            Ok(None) => Ok(Accepted::Waited),
+            Err(_) => Err(self.faults.raise()),
         }
     }
 
     fn back(&mut self, _link: TcpLink<R>, _side: TcpSide<R>) {}
+
+    fn hurry(&mut self) {
+        self.bell.ring();
+    }
 }
 
-// The next link. One whose peer went away before it was accepted is passed over, and what the system lacks for a while is
-// waited for, `ACCEPT_TRIES` times in a row at most.
-fn accept_link<R: Clock + Copy>(listener: &TcpListener, rt: R) -> Option<TcpLink<R>>
-    ensures { IfSome result (λ link. link ≡ unused None) }
+// A link that waits to be accepted. One whose peer went away before is passed over.
+fn accept_link<R: Clock + Copy>(
+    listener: &TcpListener,
+    rt: R,
+    bell: &Bell,
+) -> io::Result<TcpLink<R>>
+    ensures { IfOk result (λ link. link ≡ unused None) }
 {
-    let mut tries = 0;
     for _ in 0..u64::MAX {
         match listener.accept() {
             Ok((stream, _)) => {
-                if let Ok(link) = TcpLink::over(stream, None, rt, LINK_SECONDS) {
-                    return Some(link);
+                if let Ok(link) = TcpLink::over(
+                    stream,
+                    None,
+                    rt,
+                    LINK_MILLISECONDS,
+                    bell.shared(),
+                ) {
+                    return Ok(link);
                 }
             }
             Err(error) if is_of_peer(error.kind()) => {}
-            Err(error) if tries < ACCEPT_TRIES && is_for_a_while(&error) => {
-                tries += 1;
-                rt.sleep(Duration::from_millis(ACCEPT_MILLISECONDS));
-            }
-            Err(_) => return None,
+            Err(error) => return Err(error),
         }
     }
-    None
+    Err(Error::from(ErrorKind::WouldBlock))
 }
 
 // Whether such an error is the peer's or of this call alone, and says nothing of the listener.

@@ -2,15 +2,16 @@ ghost use Rattle.std.specs.Prelude.{◌≡◌, refl, None, Some, IfOk, IfSome, o
 ghost use Rattle.std.specs.Io.{ReadsAtMost, WritesAtMost};
 ghost use Rattle.sig_system.specs.Adapters.{pair_of, unused};
 
-use crate::deadline::Deadline;
-use crate::{read_again, write_again};
+use crate::bell::Bell;
+use crate::read_again;
+use crate::timing::{Timing, read_in_time, set_looks, write_in_time};
 use sig_links::{FaultCount, Link};
 use sig_outside::{Failed, Place, Sink, Source};
 use std::io;
 use std::marker::Model;
 use std::net::{Shutdown, TcpStream};
 use std::rt::Clock;
-use std::time::{Duration, Instant};
+use std::time::Duration;
 
 /// How many milliseconds each read waits that takes what still comes on a link that has ended.
 pub const REST_MILLISECONDS: u64 = 250;
@@ -25,21 +26,18 @@ pub const REST_BYTES: usize = 8_192;
 /// dialled. A read or a write that waits longer than its limit, or past a deadline of the link, fails. `R` is a handle on the
 /// clock.
 ///
-/// An accepted link ends `LINK_SECONDS` after it was made, a dialled one `EXCHANGE_SECONDS` after. A request has to begin
-/// `IDLE_SECONDS` after a response, or after the link was made, and to be there whole `REQUEST_SECONDS` after its first byte.
-/// Each may pass by a second.
+/// An accepted link ends `LINK_MILLISECONDS` after it was made, a dialled one `EXCHANGE_MILLISECONDS` after. A request has to
+/// begin `IDLE_MILLISECONDS` after a response, or after the link was made, and to be there whole `REQUEST_MILLISECONDS` after
+/// its first byte. An accepted link that its door asks to end has `HURRY_MILLISECONDS` left. Each may pass by
+/// `LOOK_MILLISECONDS`.
 #[derive(Drop)]
 pub struct TcpLink<R> {
-    stream: TcpStream,
+    // None once the link has ended, so that its descriptor is free at once.
+    stream: Option<TcpStream>,
     place: Option<Place>,
     reads: FaultCount,
     writes: FaultCount,
-    rt: R,
-    since: Instant,
-    deadline: Deadline,
-    // What the system was told last, in seconds.
-    read_wait: u64,
-    write_wait: u64,
+    timing: Timing<R>,
 }
 
 impl<R> Model for TcpLink<R> {
@@ -52,36 +50,27 @@ impl<R> Model for TcpLink<R> {
 }
 
 impl<R: Clock + Copy> TcpLink<R> {
-    // A link over a stream that was just made, which ends after so many seconds. `place` is where it was dialled.
+    // A link over a stream that was just made, which ends after so many milliseconds, or soon after the bell is rung. `place` is
+    // where it was dialled.
     pub(crate) fn over(
         stream: TcpStream,
         place: Option<Place>,
         rt: R,
-        seconds: u64,
+        milliseconds: u64,
+        bell: Option<Bell>,
     ) -> io::Result<TcpLink<R>>
         ensures { IfOk result (λ link. link ≡ unused (option_map pair_of place)) }
     {
-        let since = Instant::now(&rt)?;
+        let timing = Timing::of(rt, milliseconds, bell)?;
         stream.set_nodelay(true)?;
+        set_looks(&stream)?;
         Ok(TcpLink {
-            stream,
+            stream: Some(stream),
             place,
             reads: FaultCount::new(),
             writes: FaultCount::new(),
-            rt,
-            since,
-            deadline: Deadline::after(seconds),
-            read_wait: 0,
-            write_wait: 0,
+            timing,
         })
-    }
-
-    // The seconds since it was made.
-    fn now(&self) -> Result<u64, Failed> {
-        match self.since.elapsed(&self.rt) {
-            Ok(elapsed) => Ok(elapsed.as_secs()),
-            Err(_) => Err(Failed),
-        }
     }
 
     // Reads within the time that is left.
@@ -89,15 +78,10 @@ impl<R: Clock + Copy> TcpLink<R> {
         ensures bound { ReadsAtMost result buf.new }
         ensures same { self.new ≡ self.old }
     {
-        let now = self.now()?;
-        let wait = self.deadline.for_read(now).ok_or(Failed)?;
-        self.wait_to_read(wait)?;
-        let count = read_again(&mut self.stream, buf)?;
-        if count > 0 {
-            let now = self.now()?;
-            self.deadline.came(now);
+        match &mut self.stream {
+            Some(stream) => read_in_time(stream, &mut self.timing, buf),
+            None => Err(Failed),
         }
-        Ok(count)
     }
 
     // Writes within the time that is left.
@@ -105,43 +89,10 @@ impl<R: Clock + Copy> TcpLink<R> {
         ensures bound { WritesAtMost result bytes.now }
         ensures same { self.new ≡ self.old }
     {
-        let now = self.now()?;
-        let wait = self.deadline.for_write(now).ok_or(Failed)?;
-        self.wait_to_write(wait)?;
-        let count = write_again(&mut self.stream, bytes)?;
-        let now = self.now()?;
-        self.deadline.answered(now);
-        Ok(count)
-    }
-
-    // Has reads wait so many seconds, which the system is told where it knows another number.
-    fn wait_to_read(&mut self, seconds: u64) -> Result<(), Failed>
-        ensures { self.new ≡ self.old }
-    {
-        if seconds == self.read_wait {
-            return Ok(());
+        match &mut self.stream {
+            Some(stream) => write_in_time(stream, &mut self.timing, bytes),
+            None => Err(Failed),
         }
-        let wait = Some(Duration::from_secs(seconds));
-        if self.stream.set_read_timeout(wait).is_err() {
-            return Err(Failed);
-        }
-        self.read_wait = seconds;
-        Ok(())
-    }
-
-    // The same for writes.
-    fn wait_to_write(&mut self, seconds: u64) -> Result<(), Failed>
-        ensures { self.new ≡ self.old }
-    {
-        if seconds == self.write_wait {
-            return Ok(());
-        }
-        let wait = Some(Duration::from_secs(seconds));
-        if self.stream.set_write_timeout(wait).is_err() {
-            return Err(Failed);
-        }
-        self.write_wait = seconds;
-        Ok(())
     }
 }
 
@@ -204,7 +155,9 @@ impl<R: Clock + Copy> Link for TcpLink<R> {
     ghost dialled = { λ l. l.dialled };
 
     fn finish(&mut self) {
-        take_rest(&mut self.stream);
+        if let Some(mut stream) = self.stream.take() {
+            take_rest(&mut stream);
+        }
     }
 
     ghost beside_reads = { λ l. refl };

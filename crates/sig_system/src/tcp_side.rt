@@ -3,7 +3,7 @@ ghost use Rattle.sig_outside.specs.Causes.{HasCause};
 ghost use Rattle.sig_system.specs.Adapters.{pair_of, untold, unused};
 
 use crate::TcpLink;
-use crate::deadline::{EXCHANGE_SECONDS, within};
+use crate::deadline::{EXCHANGE_MILLISECONDS, within};
 use sig_links::{FaultCount, Side};
 use sig_outside::{Failed, Place};
 use std::alloc::Global;
@@ -105,7 +105,7 @@ fn connect<R: Net<Stream = TcpStream> + Clock + Copy>(
         let now = since.elapsed(&rt).ok()?.as_secs();
         let wait = Duration::from_secs(within(DIAL_SECONDS, DIAL_SECONDS, now)?);
         if let Ok(stream) = TcpStream::connect_timeout(&rt, &address, wait) {
-            return TcpLink::over(stream, Some(kept), rt, EXCHANGE_SECONDS).ok();
+            return TcpLink::over(stream, Some(kept), rt, EXCHANGE_MILLISECONDS, None).ok();
         }
     }
     None
