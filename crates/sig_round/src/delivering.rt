@@ -33,11 +33,8 @@ pub fn deliver_all<R: Wait, K: Taker, S: Side>(
     Ok(())
 }
 
-/// Pushes a token, and settles it by what its push settles.
-///
-/// `Ok` says that it has its Settle turn, whatever that turn answered. Any other answer says why there is none: the fault of
-/// the push, or `Memory`, also where the turn was refused memory.
-pub fn deliver<R: Wait, K: Taker, S: Side>(
+// Pushes a token, and settles it by what its push settles.
+fn deliver<R: Wait, K: Taker, S: Side>(
     alloc: Global,
     rt: &R,
     taker: &mut K,
