@@ -10,6 +10,8 @@ pub enum Stop {
     Shut,
     /// An accept failed.
     Failed,
+    /// What serves its links lets no further one in.
+    Halted,
 }
 
 impl Stop {
@@ -19,7 +21,7 @@ impl Stop {
     {
         match self {
             Stop::Shut => true,
-            Stop::Spent | Stop::Failed => false,
+            Stop::Spent | Stop::Failed | Stop::Halted => false,
         }
     }
 }

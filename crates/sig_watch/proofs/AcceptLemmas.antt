@@ -1,8 +1,8 @@
--- A link that a door gave.
+-- What a door answers.
 use Rattle.std.proofs.Common.{◌≡◌, subst, sym}
 use Rattle.sig_links.specs.declared.accepted.Accepted.{Accepted}
-use Rattle.sig_links.specs.declared.accepted.Accepted.TheVariants.{Link}
-use Rattle.sig_links.specs.Told.{AcceptsNext, Begins, IfLink, Lends, LinkPlan}
+use Rattle.sig_links.specs.declared.accepted.Accepted.TheVariants.{Link, Shut, Waited}
+use Rattle.sig_links.specs.Told.{AcceptsNext, Begins, IfLink, IfShut, IfWaited, Lends, LinkPlan}
 use Rattle.sig_links.specs.Views.{DoorView}
 use Rattle.sig_serving.specs.Line.{Line}
 use Rattle.sig_links.specs.Views.{SideView}
@@ -28,3 +28,17 @@ gives old new came line side plan is next begins whole lends others faults = sub
   place = others.1;
   faults = faults;
 })
+
+-- what holds where no further link will come, and where none came in time
+pub of_shut : {L S : Type 0} (answer : Accepted L S) (holds : Type 0) → answer ≡ Shut → IfShut answer holds → holds
+of_shut {L} {S} answer holds is h = subst (λ (a : Accepted L S). IfShut a holds) is h
+
+pub of_waited : {L S : Type 0} (answer : Accepted L S) (holds : Type 0) → answer ≡ Waited → IfWaited answer holds → holds
+of_waited {L} {S} answer holds is h = subst (λ (a : Accepted L S). IfWaited a holds) is h
+
+-- a door of which all is as it was, and one of which all but its faults is
+pub view_same : (old new : DoorView) → new.coming ≡ old.coming → new.out ≡ old.out → (new.served ≡ old.served) × (new.place ≡ old.place) → new.faults ≡ old.faults → new ≡ old
+view_same old new coming out others faults = λ i. record { coming = coming i; served = others.0 i; out = out i; place = others.1 i; faults = faults i }
+
+pub view_faulty : (old new : DoorView) → new.coming ≡ old.coming → new.out ≡ old.out → (new.served ≡ old.served) × (new.place ≡ old.place) → new ≡ record old { faults = new.faults }
+view_faulty old new coming out others = λ i. record { coming = coming i; served = others.0 i; out = out i; place = others.1 i; faults = new.faults }

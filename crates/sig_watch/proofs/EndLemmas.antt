@@ -5,10 +5,10 @@ use Rattle.sig_serving.specs.Stops.{is_shut}
 use Rattle.sig_serving.specs.declared.stop.Stop.{Stop}
 use Rattle.sig_watch.specs.Attending.{Attends}
 use Rattle.sig_watch.specs.Sights.{Sight}
-use Rattle.sig_watch.specs.Ends.{EndsBy, IfReport, WhyEnded}
+use Rattle.sig_watch.specs.Ends.{EndsBy, HandsBack, IfReport, IsReported, WhyEnded}
 use Rattle.sig_watch.specs.declared.report.Report.{Report}
 use Rattle.sig_watch.specs.declared.report.WatchEnd.{WatchEnd}
-use Rattle.sig_watch.specs.declared.report.WatchEnd.TheVariants.{Done, DoorFault, Broken, Disagree, Memory}
+use Rattle.sig_watch.specs.declared.report.WatchEnd.TheVariants.{Done, DoorFault, Broken, Halted, Disagree, Memory}
 
 module _ {N G : Type 0} where
   -- it follows
@@ -16,6 +16,7 @@ module _ {N G : Type 0} where
   follows P Q (Done now report) f p = f now report p
   follows P Q (DoorFault now report) f p = f now report p
   follows P Q (Broken now report) f p = f now report p
+  follows P Q (Halted now report) f p = f now report p
   follows P Q (Disagree now differ report) f p = f now report p
   follows P Q (Memory now) f p = tt
 
@@ -40,3 +41,12 @@ module _ {N G : Type 0} where
         shut = same.2;
         ends = ends;
       }) gives
+
+-- with a report nothing is said of what is handed back as it was
+pub handed_back : {N G A : Type 0} (old : N) (door door' : A) (result : WatchEnd N G) → IsReported result → HandsBack old door door' result
+handed_back old door door' (Done now report) told = tt
+handed_back old door door' (DoorFault now report) told = tt
+handed_back old door door' (Broken now report) told = tt
+handed_back old door door' (Halted now report) told = tt
+handed_back old door door' (Disagree now differ report) told = tt
+handed_back old door door' (Memory now) told = absurd told

@@ -1,6 +1,6 @@
 pub mod AcceptLemmas
 pub mod DoorLemmas
 pub mod EndLemmas
-pub mod ReturnLemmas
+pub mod PassLemmas
 pub mod SharedLemmas
 pub mod WatchLemmas

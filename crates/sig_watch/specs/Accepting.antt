@@ -1,12 +1,12 @@
 -- The links that a door gives to a watch, and why it gives no more.
-use Rattle.std.specs.Prelude.{◌≡◌, ℕ, ◌+◌, ◌<◌, List, [], ◌∷◌}
-use Rattle.sig_json.specs.declared.limits.TheConstants.{LINKS_PER_WATCH}
+use Rattle.std.specs.Prelude.{◌≡◌, ℕ, ◌<◌}
 use Rattle.sig_outside.specs.Causes.{Raised}
 use Rattle.sig_links.specs.Told.{AcceptsNext, Begins, IsShut, Lends, LinkPlan}
 use Rattle.sig_links.specs.Views.{DoorView}
 use Rattle.sig_serving.specs.declared.stop.Stop.{Stop}
-use Rattle.sig_serving.specs.declared.stop.Stop.TheVariants.{Spent, Shut, Failed}
+use Rattle.sig_serving.specs.declared.stop.Stop.TheVariants.{Spent, Shut, Failed, Halted}
 use Rattle.sig_watch.specs.Sights.{Sight}
+use Rattle.sig_watch.specs.declared.limits.TheConstants.{LINKS_PER_WATCH}
 
 -- the next link of the door came, with its side: nothing was read, written or sent yet
 pub record Gives (old new : DoorView) (came : Sight) : Type 0 where
@@ -26,13 +26,9 @@ pub record FailsOnce (old new : DoorView) : Type 0 where
   pub same : new ≡ record old { faults = new.faults }
 
 -- why no further link was accepted after so many: there were as many as a watch may have; or, before that, the door is shut, or
--- it failed
+-- it failed, or the host let no further one in
 abbrev pub StopsBy : Stop → ℕ → DoorView → DoorView → Type 0
 StopsBy Spent count old new = (count ≡ LINKS_PER_WATCH) × (new ≡ old)
 StopsBy Shut count old new = (count < LINKS_PER_WATCH) × IsShut old.coming × (new ≡ old)
 StopsBy Failed count old new = (count < LINKS_PER_WATCH) × FailsOnce old new
-
--- these links came after so many, in this order, and then no more
-abbrev pub Accepts : Stop → ℕ → List Sight → DoorView → DoorView → Type 0
-Accepts stop count [] old new = StopsBy stop count old new
-Accepts stop count (came ∷ later) old new = (between : DoorView) × Gives old between came × Accepts stop (count + 1) later between new
+StopsBy Halted count old new = (count < LINKS_PER_WATCH) × (new ≡ old)

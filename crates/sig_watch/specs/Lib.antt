@@ -1,6 +1,7 @@
 pub mod Accepting
 pub mod Attending
 pub mod Ends
-pub mod Finished
+pub mod Happening
+pub mod Passing
 pub mod Returning
 pub mod Sights

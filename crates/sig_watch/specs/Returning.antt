@@ -1,5 +1,5 @@
--- The way back of the links of a watch, one by one.
-use Rattle.std.specs.Prelude.{◌≡◌, List, [], ◌∷◌}
+-- A link of a watch that goes back to its door.
+use Rattle.std.specs.Prelude.{◌≡◌}
 use Rattle.sig_links.specs.Told.{TakesBack, served_of}
 use Rattle.sig_links.specs.Views.{DoorView}
 use Rattle.sig_watch.specs.Sights.{Sight}
@@ -10,8 +10,3 @@ pub record IsBack (left : Sight) (old new : DoorView) : Type 0 where
   pub coming : new.coming ≡ old.coming
   pub place : new.place ≡ old.place
   pub faults : new.faults ≡ old.faults
-
--- and these, in order
-abbrev pub AreBack : List Sight → DoorView → DoorView → Type 0
-AreBack [] old new = new ≡ old
-AreBack (left ∷ rest) old new = (between : DoorView) × IsBack left old between × AreBack rest between new

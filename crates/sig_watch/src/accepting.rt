@@ -1,67 +1,166 @@
-//! Links are accepted, and each is served in a thread of its own while the next is waited for.
+//! Links are accepted as places are free, and each is served in a thread of its own.
 
-ghost use Rattle.std.specs.Prelude.{◌≡◌, ◌≤◌, ◌<◌, ◌+◌, ◌++◌, ◌∷◌, List, vec_capacity, vec_len};
+ghost use Rattle.std.specs.Prelude.{◌≡◌, ◌≢◌, ◌⊎◌, ◌≤◌, ◌<◌, ◌+◌, ◌++◌, ◌∷◌, All, [], IfSome, Some, length, map};
 ghost use Rattle.std.specs.Thread.{IsSync};
-ghost use Rattle.sig_json.specs.declared.limits.TheConstants.{LINKS_PER_WATCH};
-ghost use Rattle.sig_watch.specs.Accepting.{Accepts};
-ghost use Rattle.sig_watch.specs.Finished.{AreFinished};
-ghost use Rattle.sig_watch.specs.Sights.{Sight};
+ghost use Rattle.sig_json.specs.declared.limits.TheConstants.{LINKS_AT_ONCE};
+ghost use Rattle.sig_watch.specs.declared.limits.TheConstants.{LINKS_PER_WATCH};
+ghost use Rattle.sig_watch.specs.Happening.{moment, open_link};
+ghost use Rattle.sig_watch.specs.Passing.{HaltsSo, LetsIn, Passes, PassesUntil};
 
 use crate::Host;
-use crate::visit::Visitor;
-use sig_json::limits::LINKS_PER_WATCH;
+use crate::course::Course;
+use crate::endings::Endings;
+use crate::limits::LINKS_PER_WATCH;
+use crate::returning::{give_back_ended, give_back_next};
+use crate::running::{Gone, start};
+use crate::visit::{Comes, Visit};
+use sig_json::limits::LINKS_AT_ONCE;
 use sig_links::{Accepted, Door, Link, Side};
 use sig_outside::Failed;
 use sig_serving::Stop;
 use std::sync::Wait;
-use std::thread::{Threads, join_mut};
+use std::thread::{Scope, Threads};
 
-// Accepts the links that a door gives after so many, as many as a watch may have, and has each served in a thread of its own;
-// gives why no further link was accepted, once all are served. There is room for them in the list.
-#[cycle(links)]
-pub fn accept_from<R, H, L, S, A, V>(
-    rt: &R,
-    host: &H,
+// Serves a link that came, under the next number.
+fn take_in<'s, E, R, H, L, S, A, V>(
+    scope: &Scope<'s, E>,
+    rt: &'s R,
+    host: &'s H,
+    endings: &'s Endings,
     door: &mut A,
-    before: u32,
-    finished: &mut Vec<V>,
-) -> Stop
+    course: &mut Course<H, V>,
+    visit: V,
+)
 where
     R: Threads + Wait + Sync,
     H: Host + Sync,
     L: Link,
     S: Side<L: Send>,
     A: Door<L = L, S = S>,
-    V: Visitor<H, L, S> + Send + Drop,
-    requires most { before ≤ LINKS_PER_WATCH }
-    requires room { vec_len finished.old + LINKS_PER_WATCH ≤ vec_capacity finished.old + before }
-    ensures accepts { (came : List Sight) × (added : List V)
-        × Accepts result before came (A.view door.old) (A.view door.new)
-        × (finished.new.items ≡ finished.old.items ++ added) × AreFinished (H.serves host.now) V.log_of V.seen_of before came added }
-    ensures few { vec_len finished.new + before ≤ vec_len finished.old + LINKS_PER_WATCH }
-    ensures capacity { vec_capacity finished.new ≡ vec_capacity finished.old }
+    V: Comes<L, S> + Send + Drop,
+    V: 's,
+    H: 's,
+    H::Log: 's,
+    requires shared { IsSync R.row × IsSync H.row }
+    requires room { (course.old.count < LINKS_PER_WATCH) × (length course.old.live.items < LINKS_AT_ONCE) }
+    requires hosts { All (λ r. r.child.promise.host.value ≡ host.now) course.old.live.items }
+    ensures passes { Passes (H.serves host.now) course.old.logs.items course.new.logs.items
+        (moment (A.view door.old) (course.old.count + 1)
+        (map (λ r. open_link r.number (V.seen_of r.child.promise.came.value)) course.old.live.items
+        ++ open_link (course.old.count + 1) (V.seen_of visit) ∷ []))
+        (moment (A.view door.new) course.new.count
+        (map (λ r. open_link r.number (V.seen_of r.child.promise.came.value)) course.new.live.items)) }
+    ensures hosts { All (λ r. r.child.promise.host.value ≡ host.now) course.new.live.items }
+    ensures counts { course.new.count ≡ course.old.count + 1 }
 {
-    if before as usize == LINKS_PER_WATCH {
-        return Stop::Spent;
-    }
-    match door.accept() {
-        Ok(Accepted::Link { link, side }) => {
-            serve_beside(rt, host, door, before, V::of(link, side), finished)
+    let number = course.count + 1;
+    course.count = number;
+    match start(scope, rt, host, endings, number, visit) {
+        Ok(running) => course.live.push_reserved(running),
+        Err(gone) => {
+            let Gone { visit, log } = gone;
+            course.logs.push_reserved(log);
+            let Visit { link, side } = visit.into_visit();
+            door.back(link, side);
         }
-        Ok(Accepted::Shut) => Stop::Shut,
-        Err(Failed) => Stop::Failed,
     }
 }
 
-// Serves a link that came after so many while further links are accepted, and puts it last.
-#[cycle(links)]
-fn serve_beside<R, H, L, S, A, V>(
-    rt: &R,
-    host: &H,
+// Accepts the next link, for which a place is free, unless the door gives none.
+fn accept_next<'s, E, R, H, L, S, A, V>(
+    scope: &Scope<'s, E>,
+    rt: &'s R,
+    host: &'s H,
+    endings: &'s Endings,
     door: &mut A,
-    before: u32,
-    mut visit: V,
-    finished: &mut Vec<V>,
+    course: &mut Course<H, V>,
+) -> Option<Stop>
+where
+    R: Threads + Wait + Sync,
+    H: Host + Sync,
+    L: Link,
+    S: Side<L: Send>,
+    A: Door<L = L, S = S>,
+    V: Comes<L, S> + Send + Drop,
+    V: 's,
+    H: 's,
+    H::Log: 's,
+    requires shared { IsSync R.row × IsSync H.row }
+    requires room { (course.old.count < LINKS_PER_WATCH) × (length course.old.live.items < LINKS_AT_ONCE) }
+    requires hosts { All (λ r. r.child.promise.host.value ≡ host.now) course.old.live.items }
+    ensures passes { PassesUntil (H.serves host.now) course.old.logs.items course.new.logs.items result
+        (moment (A.view door.old) course.old.count
+        (map (λ r. open_link r.number (V.seen_of r.child.promise.came.value)) course.old.live.items))
+        (moment (A.view door.new) course.new.count
+        (map (λ r. open_link r.number (V.seen_of r.child.promise.came.value)) course.new.live.items)) }
+    ensures hosts { All (λ r. r.child.promise.host.value ≡ host.now) course.new.live.items }
+    ensures one { (course.new.count ≡ course.old.count) ⊎ (course.new.count ≡ course.old.count + 1) }
+    ensures gives { IfSome result (λ stop. stop ≢ Stop.Halted) }
+{
+    match door.accept() {
+        Ok(Accepted::Link { link, side }) => {
+            take_in(scope, rt, host, endings, door, course, V::of(link, side));
+            None
+        }
+        Ok(Accepted::Waited) => None,
+        Ok(Accepted::Shut) => Some(Stop::Shut),
+        Err(Failed) => Some(Stop::Failed),
+    }
+}
+
+// Accepts the next link, if the host lets it in, once a place is free; or says why none is accepted.
+fn advance<'s, E, R, H, L, S, A, V>(
+    scope: &Scope<'s, E>,
+    rt: &'s R,
+    host: &'s H,
+    endings: &'s Endings,
+    door: &mut A,
+    course: &mut Course<H, V>,
+) -> Option<Stop>
+where
+    R: Threads + Wait + Sync,
+    H: Host + Sync,
+    L: Link,
+    S: Side<L: Send>,
+    A: Door<L = L, S = S>,
+    V: Comes<L, S> + Send + Drop,
+    V: 's,
+    H: 's,
+    H::Log: 's,
+    requires shared { IsSync R.row × IsSync H.row }
+    requires hosts { All (λ r. r.child.promise.host.value ≡ host.now) course.old.live.items }
+    ensures passes { PassesUntil (H.serves host.now) course.old.logs.items course.new.logs.items result
+        (moment (A.view door.old) course.old.count
+        (map (λ r. open_link r.number (V.seen_of r.child.promise.came.value)) course.old.live.items))
+        (moment (A.view door.new) course.new.count
+        (map (λ r. open_link r.number (V.seen_of r.child.promise.came.value)) course.new.live.items)) }
+    ensures hosts { All (λ r. r.child.promise.host.value ≡ host.now) course.new.live.items }
+    ensures lets_in { LetsIn (H.answered host.now) course.old.count course.new.count }
+    ensures grows { course.old.count ≤ course.new.count }
+    ensures halts { IfSome result (λ stop. HaltsSo (H.answered host.now) stop course.new.count) }
+{
+    if course.count as usize == LINKS_PER_WATCH {
+        return Some(Stop::Spent);
+    }
+    if !host.lets_in(rt, course.count + 1) {
+        return Some(Stop::Halted);
+    }
+    if course.live.len() == LINKS_AT_ONCE {
+        give_back_next(rt, host, endings, door, course);
+        return None;
+    }
+    accept_next(scope, rt, host, endings, door, course)
+}
+
+/// Accepts the links that a door gives, as many as a watch may have, until it accepts none; and says why. Those that are
+/// open then are left.
+pub fn accept_all<'s, E, R, H, L, S, A, V>(
+    scope: &Scope<'s, E>,
+    rt: &'s R,
+    host: &'s H,
+    endings: &'s Endings,
+    door: &mut A,
+    course: &mut Course<H, V>,
 ) -> Stop
 where
     R: Threads + Wait + Sync,
@@ -69,29 +168,26 @@ where
     L: Link,
     S: Side<L: Send>,
     A: Door<L = L, S = S>,
-    V: Visitor<H, L, S> + Send + Drop,
-    requires most { before < LINKS_PER_WATCH }
-    requires room { vec_len finished.old + LINKS_PER_WATCH ≤ vec_capacity finished.old + before }
-    ensures accepts { (came : List Sight) × (added : List V)
-        × Accepts result (before + 1) came (A.view door.old) (A.view door.new)
-        × (finished.new.items ≡ finished.old.items ++ added) × AreFinished (H.serves host.now) V.log_of V.seen_of before (V.seen_of visit ∷ came) added }
-    ensures few { vec_len finished.new + before ≤ vec_len finished.old + LINKS_PER_WATCH }
-    ensures capacity { vec_capacity finished.new ≡ vec_capacity finished.old }
+    V: Comes<L, S> + Send + Drop,
+    V: 's,
+    H: 's,
+    H::Log: 's,
+    requires shared { IsSync R.row × IsSync H.row }
+    requires hosts { All (λ r. r.child.promise.host.value ≡ host.now) course.old.live.items }
+    ensures passes { PassesUntil (H.serves host.now) course.old.logs.items course.new.logs.items (Some result)
+        (moment (A.view door.old) course.old.count
+        (map (λ r. open_link r.number (V.seen_of r.child.promise.came.value)) course.old.live.items))
+        (moment (A.view door.new) course.new.count
+        (map (λ r. open_link r.number (V.seen_of r.child.promise.came.value)) course.new.live.items)) }
+    ensures hosts { All (λ r. r.child.promise.host.value ≡ host.now) course.new.live.items }
+    ensures lets_in { LetsIn (H.answered host.now) course.old.count course.new.count }
+    ensures halts { HaltsSo (H.answered host.now) result course.new.count }
 {
-    let (_, stop) = join_mut(
-        rt,
-        &mut || visit.serve(rt, host, before + 1),
-        &mut || -> Stop
-            requires most { before < LINKS_PER_WATCH }
-            requires room { vec_len finished.now + LINKS_PER_WATCH ≤ vec_capacity finished.now + before }
-            requires shared { IsSync R.row × IsSync H.row }
-            ensures accepts { (came : List Sight) × (added : List V)
-                × Accepts result (before + 1) came (A.view door.entry.now) (A.view door.exit.now)
-                × (finished.exit.now.items ≡ finished.entry.now.items ++ added) × AreFinished (H.serves host.entry.now) V.log_of V.seen_of (before + 1) came added }
-            ensures few { vec_len finished.exit.now + before + 1 ≤ vec_len finished.entry.now + LINKS_PER_WATCH }
-            ensures capacity { vec_capacity finished.exit.now ≡ vec_capacity finished.entry.now }
-        { accept_from(rt, host, door, before + 1, finished) },
-    );
-    finished.push_reserved(visit);
-    stop
+    for _ in rt.forever() {
+        give_back_ended(rt, host, endings, door, course);
+        if let Some(stop) = advance(scope, rt, host, endings, door, course) {
+            return stop;
+        }
+    }
+    unreachable!()
 }

@@ -32,6 +32,7 @@ pub fn end_of<N: Watched, G: Logged<Turn = N::Turn>>(
         None => match stop {
             Stop::Spent | Stop::Shut => WatchEnd::Done { node, report },
             Stop::Failed => WatchEnd::DoorFault { node, report },
+            Stop::Halted => WatchEnd::Halted { node, report },
         },
     }
 }

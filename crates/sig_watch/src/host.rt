@@ -1,4 +1,4 @@
-ghost use Rattle.std.specs.Prelude.{ℕ};
+ghost use Rattle.std.specs.Prelude.{ℕ, Bool};
 ghost use Rattle.sig_serving.specs.Line.{seen};
 ghost use Rattle.sig_watch.specs.Sights.{Sight, sight};
 
@@ -8,11 +8,17 @@ use std::sync::Wait;
 /// What serves the links of a watch, several at the same time.
 ///
 /// Its meaning `serves` says how a link comes to a log: the link's number, its log, and what is seen of the link and of its
-/// side before and after.
+/// side before and after. `answered` says that it was asked whether a link of this number may be accepted, and answered so.
 pub trait Host {
     type Log: Send + Drop;
 
     ghost serves: { Self → ℕ → Self.Log → Sight → Sight → Type 0 };
+
+    ghost answered: { Self → ℕ → Bool → Type 0 };
+
+    /// Whether a link may be accepted, which would have this number. It may wait for the links that are served.
+    fn lets_in<R: Wait>(&self, rt: &R, number: u32) -> bool
+        ensures { answered self.now number result };
 
     /// Serves a link under this number. It may wait for the link, for those that it dials, and for others that are served.
     fn serve<R: Wait, L: Link, S: Side>(

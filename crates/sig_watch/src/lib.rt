@@ -8,27 +8,33 @@
 //! ```text
 //!     node -> rules, room -> lock <-- link 1 in a thread <-- door
 //!                                 <-- link 2 in a thread <-- door
-//!                                 ..                             shut, a fault, or as many as a watch serves
-//!          each ended -> door, in order of acceptance
-//!          <- the node from under the lock, its turns beside the logs -> Disagree, Broken, DoorFault or Done, with a report
+//!                                 ..                             shut, a fault, a broken node, or as many as a watch serves
+//!          a link has ended -> its log is kept, and it goes back -> door; its place is free for the next
+//!          <- the node from under the lock, its turns beside the logs -> Disagree, Broken, Halted, DoorFault or Done, with a report
 //! ```
 //!
 //! Promised: the node that is handed back follows the node that was handed in, and is one history; links are numbered from 1 in
-//! order of acceptance; each was served under its number and ended; once all were, each went back to the door with its side, in
-//! that order; the logs stand in the same order; and why no further link was accepted is told. Room is taken before the first
-//! link is accepted, so serving them takes no memory here. The end is by the comparison first, then by the node, and then by
-//! the door; and the report has the logs.
+//! order of acceptance, and no more than `LINKS_AT_ONCE` are open at any time; each was served under its number and ended, and
+//! went back to the door once, with its side; the logs stand in the order in which they went; and why no further link was
+//! accepted is told. The host is asked before each link is accepted. Room is taken before the first one is, so serving them
+//! takes no memory here. The end is by the comparison first, then by the node, and then by the door; and the report has the
+//! logs.
 //!
-//! Left out: that threads run at the same time, and when; how links are served, and what the node answers. Where the system
-//! makes no thread, a link is served once no further link is accepted.
+//! Left out: that threads run at the same time, and when, so how soon a link that has ended goes back; how links are served,
+//! and what the node answers. Where the system makes no thread, a link is served before the next is accepted.
 #![tactic(auto)]
 
 mod accepting;
 mod attending;
+mod course;
 mod ending;
+mod endings;
 mod host;
+pub mod limits;
 mod report;
+mod returning;
 mod room;
+mod running;
 mod served;
 mod shared;
 mod visit;

@@ -4,7 +4,7 @@ use sig_logs::Differ;
 /// What a watch came to. The state before its first link is the base of the node that is handed back with it.
 #[derive(Drop)]
 pub struct Report<G> {
-    /// What each link came to, in order of acceptance.
+    /// What each link came to, in the order in which they went back to the door.
     pub links: Items<G>,
     /// Whether the door said that no further link will come.
     pub shut: bool,
@@ -24,6 +24,12 @@ pub enum WatchEnd<N, G> {
     },
     /// The node is broken.
     Broken {
+        node: N,
+        report: Report<G>,
+    },
+    /// No further link was accepted since the node was broken when it was asked, but the node isn't broken now. A node that is
+    /// broken stays so; but that it was is known under its lock alone.
+    Halted {
         node: N,
         report: Report<G>,
     },

@@ -1,25 +1,27 @@
-ghost use Rattle.std.specs.Prelude.{◌≡◌, ◌≤◌, [], vec_capacity};
-ghost use Rattle.sig_json.specs.declared.limits.TheConstants.{LINKS_PER_WATCH};
+ghost use Rattle.std.specs.Prelude.{◌≡◌, []};
 
+use crate::Host;
+use crate::course::Course;
+use crate::endings::Endings;
 use crate::visit::Visit;
 use sig_json::Memory;
-use sig_json::limits::LINKS_PER_WATCH;
+use sig_json::limits::LINKS_AT_ONCE;
+use sig_links::{Link, Side};
 use std::alloc::Global;
 
-/// Room for the links of a watch, as many as it may have, and for their logs.
+/// Room for the links of a watch: for as many logs as it may have, and for as many links as may be open at once.
 #[derive(Drop)]
-pub struct Room<L, S, G> {
-    pub(crate) finished: Vec<Visit<L, S, G>>,
-    pub(crate) logs: Vec<G>,
-    ghost empty: { (finished.items ≡ []) × (logs.items ≡ []) },
-    ghost room: { (LINKS_PER_WATCH ≤ vec_capacity finished) × (LINKS_PER_WATCH ≤ vec_capacity logs) },
+pub struct Room<H: Host, L: Link + Drop, S: Side + Drop> {
+    pub(crate) course: Course<H, Visit<L, S>>,
+    pub(crate) endings: Endings,
+    ghost empty: { (course.count ≡ 0) × (course.live.items ≡ []) × (course.logs.items ≡ []) },
 }
 
-impl<L: Drop, S: Drop, G: Drop> Room<L, S, G> {
+impl<H: Host, L: Link + Drop, S: Side + Drop> Room<H, L, S> {
     /// Takes the room. Out of memory is its only error.
-    pub fn new(alloc: Global) -> Result<Room<L, S, G>, Memory> {
-        let finished = Vec::with_capacity(alloc, LINKS_PER_WATCH)?;
-        let logs = Vec::with_capacity(alloc, LINKS_PER_WATCH)?;
-        Ok(Room { finished, logs })
+    pub fn new(alloc: Global) -> Result<Room<H, L, S>, Memory> {
+        let course = Course::new(alloc)?;
+        let endings = Endings::new(Vec::with_capacity(alloc, LINKS_AT_ONCE)?);
+        Ok(Room { course, endings })
     }
 }

@@ -1,11 +1,12 @@
 //! A watch from its opening to its end.
 
-ghost use Rattle.std.specs.Prelude.{◌≡◌, false, IfOk, Some};
-ghost use Rattle.sig_watch.specs.Ends.{HandsBack, IfReport, IsReported, WhyEnded};
+ghost use Rattle.std.specs.Prelude.{◌≡◌, false, IfSome, Some};
+ghost use Rattle.sig_watch.specs.Ends.{HandsBack, IfReport, WhyEnded};
 
 use crate::{Host, Opened, Room, Served, Shared, WatchEnd, attend, end_of};
 use sig_json::Memory;
 use sig_links::{Door, Link, Side};
+use sig_logs::Watched;
 use std::alloc::Global;
 use std::marker::Brand;
 use std::snapshot::Snapshot;
@@ -19,10 +20,48 @@ struct Locked<E: Served, O: Opened<E::Node>> {
     node: Mutex<Shared<E, O>>,
 }
 
+impl<E: Served, O: Opened<E::Node>> Locked<E, O> {
+    // A node whose watch is opened here, and its rules.
+    fn new(alloc: Global, node: E::Node, rules: E::Rules) -> Locked<E, O>
+        requires same { Some node ≡ O.before }
+        requires whole { E.Node.broken node ≡ false }
+        ensures { result.rules ≡ rules }
+    {
+        let before = Snapshot::of(&node);
+        let mut node = node;
+        E::open_watch(&mut node);
+        Locked {
+            alloc,
+            rules,
+            node: Mutex::new(Shared::new(node, before)),
+        }
+    }
+
+    // The node, once no link asks it any more.
+    fn into_node(self) -> E::Node
+        ensures { IfSome O.before (λ before. E.follows before result) }
+    {
+        let Locked {
+            alloc: _,
+            rules: _,
+            node,
+        } = self;
+        node.into_inner().into_node()
+    }
+}
+
 impl<E: Served, O: Opened<E::Node>> Host for Locked<E, O> {
     type Log = E::Log;
 
     ghost serves = { λ h. E.serves h.rules };
+
+    // A lock hides what the node was when it was asked.
+    ghost answered = { λ h number answer. Unit {0} };
+
+    fn lets_in<R: Wait>(&self, rt: &R, _number: u32) -> bool {
+        let shared = self.node.lock(rt);
+        !(*shared).node.is_broken()
+    }
 
     fn serve<R: Wait, L: Link, S: Side>(
         &self,
@@ -35,10 +74,11 @@ impl<E: Served, O: Opened<E::Node>> Host for Locked<E, O> {
     }
 }
 
-/// Serves the links that a door gives, `LINKS_PER_WATCH` at most, each in a thread of its own from when it is accepted, over a
-/// node that isn't broken. Each is served as `E` serves it, under a number from 1 on in order of acceptance, with the node
-/// under its lock. After the door is shut or has failed no further link is accepted; once all have ended, each goes back to
-/// the door with its side. It may wait for the door, the links, the lock and the threads.
+/// Serves the links that a door gives, over a node that isn't broken: `LINKS_PER_WATCH` at most, and `LINKS_AT_ONCE` at any
+/// time, each in a thread of its own from when it is accepted. Each is served as `E` serves it, under a number from 1 on in
+/// order of acceptance, with the node under its lock; and goes back to the door with its side once it has ended. After the
+/// door is shut or has failed, or where the node is broken, no further link is accepted, and the watch ends once all have
+/// gone back. It may wait for the door, the links, the lock and the threads.
 ///
 /// It ends with `Disagree` where the turns of the logs and those of the node aren't the same, and tells the first that isn't;
 /// else with `Broken` exactly where the node is broken; with `Done` where as many links were served as a watch may have, or
@@ -65,64 +105,33 @@ pub fn serve_watch<E: Served<Node: Send> + Send, R: Threads + Wait + Sync, A: Do
 
     ensures memory { HandsBack node door.old door.new result }
 {
-    match open::<E, A>(alloc, &node) {
-        Ok((rules, room)) => {
-            let before = Snapshot::of(&node);
-            let mut node = node;
-            E::open_watch(&mut node);
-            watch::<E, Brand, R, A>(alloc, rt, node, before, rules, door, room)
-        }
+    match E::rules(alloc, &node) {
+        Ok(rules) => watch::<E, Brand, R, A>(alloc, rt, node, rules, door),
         Err(Memory) => WatchEnd::Memory { node },
     }
 }
 
-// The rules that are lent to links, and room for all links and their logs.
-fn open<E: Served, A: Door>(
-    alloc: Global,
-    node: &E::Node,
-) -> Result<(E::Rules, Room<A::L, A::S, E::Log>), Memory>
-    ensures { IfOk result (λ opening. opening.0 ≡ E.rules_of node.now) }
-{
-    let rules = E::rules(alloc, node)?;
-    let room = Room::new(alloc)?;
-    Ok((rules, room))
-}
-
-// Serves the links of a watch that was opened.
+// Serves the links of a watch by these rules, which are lent to each.
 fn watch<
     E: Served<Node: Send> + Send,
     O: Opened<E::Node> + Send,
     R: Threads + Wait + Sync,
     A: Door,
->(
-    alloc: Global,
-    rt: &R,
-    node: E::Node,
-    before: Snapshot<E::Node>,
-    rules: E::Rules,
-    door: &mut A,
-    room: Room<A::L, A::S, E::Log>,
-) -> WatchEnd<E::Node, E::Log>
-    requires same { Some before.value ≡ O.before }
-    requires follows { E.follows before.value node }
-    ensures follows { IfReport result (λ now report. E.follows before.value now) }
+>(alloc: Global, rt: &R, node: E::Node, rules: E::Rules, door: &mut A) -> WatchEnd<E::Node, E::Log>
+    requires same { Some node ≡ O.before }
+    requires whole { E.Node.broken node ≡ false }
+    ensures follows { IfReport result (λ now report. E.follows node now) }
     ensures history { IfReport result (λ now report. E.is_history now) }
     ensures links { IfReport result (λ now report. WhyEnded E.Node.Turn.link_of E.Log.number_of E.Log.turns_of E.Node.turns_of E.Node.broken (E.serves rules) report result
         (A.view door.old) (A.view door.new)) }
-    ensures reported { IsReported result }
+    ensures memory { HandsBack node door.old door.new result }
 {
-    let host = Locked {
-        alloc,
-        rules,
-        node: Mutex::new(Shared::<E, O>::new(node, before)),
+    let Ok(room) = Room::<Locked<E, O>, A::L, A::S>::new(alloc) else {
+        return WatchEnd::Memory { node };
     };
+    let host = Locked::<E, O>::new(alloc, node, rules);
     let attended = attend(rt, &host, door, room);
-    let Locked {
-        alloc: _,
-        rules: _,
-        node,
-    } = host;
-    let node = node.into_inner().into_node();
+    let node = host.into_node();
     E::recalls(&node);
     end_of(node, attended)
 }

@@ -1,8 +1,9 @@
-use Rattle.std.proofs.Common.{◌∙◌}
-use Rattle.sig_watch.proofs.WatchLemmas.{attends}
+use Rattle.std.proofs.Common.{◌∙◌, List, ap, sym, subst}
+use Rattle.sig_watch.specs.Attending.{Attends}
 use Rattle.sig_watch.proofs.attending.attend.Goals as goal
 
-pub returns : goal.returns
-returns g c =
-    let accepted = c.accept_from-stop.ensures.accepts in
-    attends _ (λ v. v.log) _ _ accepted.0 _ accepted.1 _ _ _ _ _ _ c.args.room.empty.0 c.args.room.empty.1 accepted.3 accepted.2 accepted.4 c.give_back.ensures.back (c.of.ensures ∙ c.give_back.ensures.logs)
+pub returns-clause-attends : goal.returns-clause-attends
+returns-clause-attends g c =
+    let served = c.serve_in_scope-stop in
+    subst (λ (logs : List g.row.H-Log.Denot). Attends (g.H.Host.serves c.args.host.now) served.result logs (g.A.Door.view c.args.door.now) (g.A.Door.view served.new.door))
+    (sym (c.of.ensures ∙ ap (λ v. v.items) c.into_logs.ensures)) served.ensures.attends
