@@ -28,5 +28,7 @@ pub fn has_texts(answers: &[Bytes], one: &str, two: &str) -> bool {
 
 /// Whether each of the answers has a status of success.
 pub fn all_succeed(answers: &[Bytes]) -> bool {
-    answers.iter().all(|answer| answer.as_slice().starts_with(b"HTTP/1.1 20"))
+    answers
+        .iter()
+        .all(|answer| answer.as_slice().starts_with(b"HTTP/1.1 20"))
 }

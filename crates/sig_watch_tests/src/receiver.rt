@@ -147,7 +147,8 @@ fn a_broken_node_is_asked_for_no_further_link(rt: HostRuntime) -> Result<(), Fai
     plans.push(push(1))?;
     plans.push(push(1))?;
     plans.push(push(0))?;
-    let node = node(alloc, 2..200)?;
+    // Loading makes fewer calls of each disk.
+    let node = node(alloc, 5..200)?;
     if node.broken_at().is_some() {
         let _ = node.into_disks();
         return Err(Memory.into());
