@@ -4,7 +4,7 @@
     python3 -B tools/checks/check_crowd.py [PROGRAM [SECONDS]]
 
 Of all connections 63 send a byte now and then for as long as the check lasts, each begun anew where the server has ended it.
-Meanwhile others come in their thousands, one after another and several side by side, and each is answered within a second. A
+Meanwhile others come in their thousands, one after another and several side by side, and each is answered within two seconds. A
 server with few descriptors answers more connections than it may hold, one that may make no further thread answers in its own,
 and one whose disk fails in service ends within two seconds, though connections stand open that say nothing.
 
@@ -30,7 +30,7 @@ from checks.served import built_program, need
 
 DRIPPING, ASKING = 63, 4
 # How long a client waits for its answer, and how long the whole is tried.
-WITHIN, SECONDS = 1, 12
+WITHIN, SECONDS = 2, 12
 NOBODY = 65534
 
 
