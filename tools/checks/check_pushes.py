@@ -54,10 +54,14 @@ class Endpoint:
                     return
                 time.sleep(endpoint.delay)
                 status, body = endpoint.answer
-                self.send_response(status)
-                self.send_header("content-length", str(len(body)))
-                self.end_headers()
-                self.wfile.write(body)
+                try:
+                    self.send_response(status)
+                    self.send_header("content-length", str(len(body)))
+                    self.end_headers()
+                    self.wfile.write(body)
+                except OSError:
+                    # The transmitter waits no longer.
+                    self.close_connection = True
 
             def log_message(self, *_):
                 pass
@@ -147,7 +151,10 @@ def slow(server):
     for number in range(100, 140):
         published(server, number)
     until(lambda: len(endpoint.subjects()) >= 32, "a round pushes fewer tokens than it is handed")
-    time.sleep(1)
+    pushed = 0
+    while pushed < len(endpoint.tokens):
+        pushed = len(endpoint.tokens)
+        time.sleep(2)
     endpoint.delay, endpoint.tokens = 4, []
     body = json.dumps(publish(server, 140)[0]).encode()
     head = f"POST /operator/publish HTTP/1.1\r\nhost: localhost\r\nauthorization: Bearer {server.operator}\r\nconnection: close\r\ncontent-length: {len(body)}\r\n\r\n"
