@@ -29,7 +29,7 @@ same_streams p f between =
 
 -- ---- what is owed
 
-nothing_beside : (name : List ℕ) (ss : List Stream) (os : List (List Made)) → stands name ss ≡ false → owed_in name ss os ≡ []
+pub nothing_beside : (name : List ℕ) (ss : List Stream) (os : List (List Made)) → stands name ss ≡ false → owed_in name ss os ≡ []
 nothing_beside name [] os absent = refl
 nothing_beside name (s ∷ ss) [] absent = refl
 nothing_beside name (s ∷ ss) (o ∷ os) absent =

@@ -2,7 +2,7 @@
 //! (OpenID Shared Signals Framework 1.0, sections 7 to 9; RFC 8417, section 2.2).
 //!
 //! It stands on `sig_history` for what facts come to, and on `sig_owing` for what of it was proved. It holds laws alone, and
-//! nothing stands on it.
+//! none of the product stands on it.
 //!
 //! Promised by `laws`: setting up a stream leaves what any stream owes; making and settling tokens leaves how a stream was set
 //! up; a publication makes a token exactly for the streams that are due one, said in the standard's terms; and all tokens that
