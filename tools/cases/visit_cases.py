@@ -49,7 +49,7 @@ def request(method, path, body=b"", bearer="read-me", *fields):
 def response(status, body=b"", *fields, close=False):
     head = [f"HTTP/1.1 {status} {PHRASES[status]}"]
     head += ["content-type: application/json"] if body else []
-    head += [*fields, *(["connection: close"] if close else []), f"content-length: {len(body)}", "", ""]
+    head += [*fields, "cache-control: no-store", *(["connection: close"] if close else []), f"content-length: {len(body)}", "", ""]
     return "\r\n".join(head).encode() + body
 
 

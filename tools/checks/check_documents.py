@@ -158,7 +158,7 @@ def check_help(text):
     sources = [text_of(path) for path in paths if os.path.exists(os.path.join(TOP, path))]
     known = re.findall(r'\bname(?:\.as_str\(\))? [!=]= "(\w+)"|"(\w+)" => Some\(Server::', "".join(sources))
     known = [one or other for one, other in known]
-    if sorted(told) != sorted(known + ["--unproved", "help", "test", "version"]):
+    if sorted(told) != sorted(known + ["--unproved", "help", "settings", "test", "version"]):
         tell("signals", f"its help has {told}, and the program knows {known}")
 
 

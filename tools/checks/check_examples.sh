@@ -36,4 +36,11 @@ room=$(mktemp -d)
 trap 'rm -r "$room"' EXIT
 "$program" init rx "$room/rx" 6ba7b811-9dad-11d1-80b4-00c04fd430c8
 check_same "$("$program" fetch "$settings" "$room/rx" 1)" 'signals: settings poll'
+
+# A server reads its settings before it looks for its store, as `./signals settings` uses. It makes no store.
+for words in 'serve examples/transmitter.json' 'receive examples/receiver.json' "receive $settings"; do
+    # shellcheck disable=SC2086
+    check_same "$("$program" $words "$room/none" 1)" 'signals: no store'
+done
+check_same "$(find "$room" -name 'none*')" ''
 echo 'examples: each prints what stands beside it'

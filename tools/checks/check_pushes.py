@@ -6,12 +6,15 @@
 The streams that stand first have endpoints that fail, each in a way of its own: nobody listens, the link is closed without a
 response, a proxy answers with an error of its own, the receiver is busy, and the receiver doesn't know who pushes. The stream
 that stands last has its token all the same, and each of the others still owes its own: it comes once the endpoint is mended.
-A token that a receiver refuses by a registered code is settled, and is never pushed again.
+A token that a receiver refuses by a registered code is settled, and is never pushed again. An endpoint that is slow has fifteen
+seconds for all tokens of its stream together.
 
 Without a built program, or where no socket can be opened, it says that it is passed over.
 """
 import http.server
+import json
 import os
+import socket
 import sys
 import tempfile
 import threading
@@ -40,7 +43,7 @@ class Endpoint:
     """An endpoint of pushes on a port of its own, which keeps what it is sent, and answers as it is told."""
 
     def __init__(self, answer):
-        self.answer, self.tokens, self.port = answer, [], free_port()
+        self.answer, self.tokens, self.port, self.delay = answer, [], free_port(), 0
         endpoint = self
 
         class Handler(http.server.BaseHTTPRequestHandler):
@@ -49,11 +52,16 @@ class Endpoint:
                 if endpoint.answer is None:
                     self.close_connection = True
                     return
+                time.sleep(endpoint.delay)
                 status, body = endpoint.answer
-                self.send_response(status)
-                self.send_header("content-length", str(len(body)))
-                self.end_headers()
-                self.wfile.write(body)
+                try:
+                    self.send_response(status)
+                    self.send_header("content-length", str(len(body)))
+                    self.end_headers()
+                    self.wfile.write(body)
+                except OSError:
+                    # The transmitter waits no longer.
+                    self.close_connection = True
 
             def log_message(self, *_):
                 pass
@@ -136,6 +144,31 @@ def refused(server):
     need(len(endpoint.tokens) == 1, "a token that was refused is pushed again")
 
 
+def slow(server):
+    """An endpoint that keeps 40 tokens owed, each after four seconds: a round ends after fifteen seconds, and what is left of it stays owed."""
+    endpoint = Endpoint((503, b""))
+    push_stream(server, endpoint.url())
+    for number in range(100, 140):
+        published(server, number)
+    until(lambda: len(endpoint.subjects()) >= 32, "a round pushes fewer tokens than it is handed")
+    pushed = 0
+    while pushed < len(endpoint.tokens):
+        pushed = len(endpoint.tokens)
+        time.sleep(2)
+    endpoint.delay, endpoint.tokens = 4, []
+    body = json.dumps(publish(server, 140)[0]).encode()
+    head = f"POST /operator/publish HTTP/1.1\r\nhost: localhost\r\nauthorization: Bearer {server.operator}\r\nconnection: close\r\ncontent-length: {len(body)}\r\n\r\n"
+    began, got = time.time(), b""
+    with socket.create_connection(("127.0.0.1", server.port), 60) as link:
+        link.sendall(head.encode() + body)
+        while more := link.recv(1 << 16):
+            got += more
+    lasted = time.time() - began
+    need(got.startswith(b"HTTP/1.1 200 "), f"a publication is answered {got!r}")
+    need(lasted <= 20, f"a slow endpoint holds the link of the publisher for {lasted:.0f} seconds")
+    need(3 <= len(endpoint.tokens) <= 4, f"a round of fifteen seconds pushes {len(endpoint.tokens)} tokens, one each four seconds")
+
+
 def main():
     program = built_program()
     if not program:
@@ -147,6 +180,7 @@ def main():
         nobody, failing, streams, _, subjects = others_fail(server)
         mended(server, nobody, failing, streams, subjects)
         refused(server)
+        slow(server)
         server.kill()
     print(f"{len(subjects)} publications, {1 + len(failing)} endpoints that failed: each token came where it was owed, once it could")
 

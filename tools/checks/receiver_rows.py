@@ -50,7 +50,11 @@ def refusals(receiver, room):
         need(ended == (10, f"signals: settings issuers[{place}].keys[0].k\n"), f"settings with a wrong key: {ended}")
         os.remove(other)
         ended = receiver.run(word, receiver.settings, os.path.join(room, "nowhere", "rx"), "1")
-        need(ended == (5, "signals: store failed\n"), f"a store in a folder that isn't there: {ended}")
+        need(ended == (6, "signals: no store\n"), f"a store in a folder that isn't there: {ended}")
+        missing = os.path.join(room, "mistyped")
+        ended = receiver.run(word, receiver.settings, missing, "1")
+        need(ended == (6, "signals: no store\n"), f"a store that isn't there: {ended}")
+        need(not any(os.path.exists(f"{missing}.{file}") for file in "ab"), f"{word} makes a store")
         ended = receiver.run(word, receiver.settings, tx, "1")
         need(ended == (6, "signals: damaged a 6\n"), f"a transmitter's store: {ended}")
 

@@ -108,6 +108,8 @@ class Served:
         response = link.getresponse()
         text = response.read()
         link.close()
+        kept = response.getheader("cache-control")
+        need(kept == (None if path.startswith("/.well-known/") and response.status == 200 else "no-store"), f"caches are told {kept} of {method} {path}")
         return response.status, dict(response.getheaders()), text
 
     def ask(self, method, path, body=None, bearer="client"):

@@ -95,7 +95,7 @@ def settling(server, other):
     owed = owed_by_both(server, other)
     need([len(names) for names in owed] == [2, 2], f"each stream owes {owed}")
     body = json.dumps({"ack": [owed[0][0], owed[1][0]], "maxEvents": 0}).encode()
-    wanted = b'HTTP/1.1 200 OK\r\ncontent-type: application/json\r\ncontent-length: 32\r\n\r\n{"moreAvailable":true,"sets":{}}'
+    wanted = b'HTTP/1.1 200 OK\r\ncontent-type: application/json\r\ncache-control: no-store\r\ncontent-length: 32\r\n\r\n{"moreAvailable":true,"sets":{}}'
     got = as_bytes(server, "POST", "/poll/acme-1", body)
     need(got == wanted, f"a poll without tokens is answered {got!r}")
     left = owed_by_both(server, other)

@@ -16,6 +16,7 @@ import signal
 import subprocess
 import sys
 import tempfile
+import threading
 import time
 from concurrent.futures import FIRST_COMPLETED, ThreadPoolExecutor, wait
 
@@ -39,9 +40,28 @@ def loaded_rt():
     loader.exec_module(rt)
     if hasattr(rt, "share_work"):
         rt.share_work(True)
+    rt.rtlib.Crate.stamp = summed_once(rt.rtlib.Crate.stamp)
     # so that all that is begun ends with this program, however it ends
     rt.rtlib.guarded()
     return rt
+
+
+def summed_once(stamp):
+    """The kit's sum of a crate's sources, which is made of the sums of the crates that it uses: along every path of crates.txt, which
+    takes minutes at the top. This takes those of the crates below as they were last made here."""
+    made, within = {}, threading.local()
+
+    def summed(crate):
+        if getattr(within, "another", False):
+            return made[crate.folder] if crate.folder in made else made.setdefault(crate.folder, stamp(crate))
+        within.another = True
+        try:
+            made[crate.folder] = stamp(crate)
+        finally:
+            within.another = False
+        return made[crate.folder]
+
+    return summed
 
 
 def size_of(crate):

@@ -65,7 +65,7 @@ pub fn load_tokens<R: Files<File = File>>(
     let (a, b) = open_files(rt, a, b)?;
     match RxNode::load(alloc, a, b, rules) {
         Ok(node) => {
-            let count = node.entries().len() as u64;
+            let count = node.tokens() as u64;
             let (_, _) = node.into_disks();
             Ok(count)
         }

@@ -4,6 +4,7 @@ use Rattle.serde_json.specs.Data.{Data, string, object, no_members, member}
 use Rattle.serde_json.specs.Written.{compact_text}
 use Rattle.httparse.specs.Grammar.{trim_ows}
 use Rattle.sig_jws.specs.declared.key.Key.{Key}
+use Rattle.sig_http.specs.Answering.{is_json, no_store}
 use Rattle.sig_http.specs.Message.{bearer_of}
 use Rattle.sig_http.specs.declared.message.Request.{Request}
 use Rattle.sig_http.specs.declared.message.Response.{Response}
@@ -47,8 +48,9 @@ abbrev pub coded_of : Code → Spot → Response
 coded_of code spot = record {
   status = 400;
   headers =
-      record { name = codes "content-type"; value = codes "application/json" }
+      is_json
       ∷ record { name = codes "content-language"; value = codes "en" }
+      ∷ no_store
       ∷ [];
   close = false;
   body = compact_text (refusal_data code spot);

@@ -7,7 +7,7 @@ ghost use Rattle.sig_delivery.specs.Pushes as spec;
 
 use crate::body::value_text;
 use serde_json::json;
-use sig_http::{Header, Request, Response};
+use sig_http::{Request, Response, header, no_store};
 use sig_json::{Bytes, Items, Memory, Text, Value, copy_optional};
 use sig_jws::Key;
 use sig_set::{Code, Spot, signed_claims};
@@ -41,27 +41,19 @@ fn path_of(alloc: Global, endpoint: &Option<Endpoint>) -> Result<Text, Memory>
 }
 
 /// The response to a pushed token that is refused (RFC 8935, section 2.3): status 400, with the code as `err` and the spot
-/// at which its judgement ended as `description`, in English. It leaves the link open.
+/// at which its judgement ended as `description`, in English, which no cache may keep. It leaves the link open.
 pub fn coded(alloc: Global, code: &Code, spot: &Spot) -> Result<Response, Memory>
     ensures { IfOk result (λ response. response ≡ spec.coded_of code.now spot.now) }
 {
     let mut headers = Vec::new(alloc);
     headers.push(header(alloc, "content-type", "application/json")?)?;
     headers.push(header(alloc, "content-language", "en")?)?;
+    headers.push(no_store(alloc)?)?;
     Ok(Response {
         status: 400,
         headers: Items::of(headers),
         close: false,
         body: refusal_text(alloc, *code, *spot)?,
-    })
-}
-
-fn header(alloc: Global, name: &str, value: &str) -> Result<Header, Memory>
-    ensures { IfOk result (λ h. h ≡ record { name = name.now; value = value.now }) }
-{
-    Ok(Header {
-        name: Text::of(alloc, name)?,
-        value: Text::of(alloc, value)?,
     })
 }
 

@@ -7,7 +7,6 @@ pub mod LawLemmas
 pub mod OutcomeLemmas
 pub mod PieceLemmas
 pub mod ReadingLemmas
-pub mod ResponseLemmas
 pub mod SectionLemmas
 pub mod TargetLemmas
 pub mod TextLemmas
@@ -16,3 +15,4 @@ pub mod NumberLemmas
 pub mod WrittenLemmas
 pub mod WrittenRequest
 pub mod WrittenResponse
+pub mod RefusalLemmas

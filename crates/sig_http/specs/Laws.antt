@@ -1,10 +1,13 @@
 -- Laws over what bytes decide.
-use Rattle.std.specs.Prelude.{◌≡◌, ℕ, ◌≤◌, ◌+◌, Bool, List, ◌++◌, length}
+use Rattle.std.specs.Prelude.{◌≡◌, ℕ, ◌≤◌, ◌+◌, Bool, true, List, ◌++◌, length, IfSome}
 use Rattle.sig_outside.specs.declared.place.Place.{Place}
+use Rattle.sig_http.specs.Answering.{closing_of, refused_with, says_no_store}
 use Rattle.sig_http.specs.Chunks.{frame_bytes}
 use Rattle.sig_http.specs.Message.{Outcome, Whole, Unfinished, body_of, DecidesRequest, DecidesResponse}
 use Rattle.sig_http.specs.Spelling.{request_spelling, response_spelling}
 use Rattle.sig_http.specs.Written.{IsReadableRequest, request_read, IsReadableResponse, response_read}
+use Rattle.sig_http.specs.declared.fault.HttpFault.{HttpFault}
+use Rattle.sig_http.specs.declared.fault.HttpRefusal.{HttpRefusal}
 use Rattle.sig_http.specs.declared.framing.Framing.TheVariants.{Chunks}
 use Rattle.sig_http.specs.declared.message.Request.{Request}
 use Rattle.sig_http.specs.declared.message.Response.{Response}
@@ -16,6 +19,12 @@ HasOneRequest = (bytes : List ℕ) (a b : Outcome Request) → DecidesRequest by
 -- and of a response
 abbrev pub HasOneResponse : Type 0
 HasOneResponse = (bytes : List ℕ) (a b : Outcome Response) → DecidesResponse bytes a → DecidesResponse bytes b → a ≡ b
+
+-- no cache may keep the response to a request that can't be read, nor that to one that the routes refuse (RFC 9111, section
+-- 5.2.2.5)
+pub record NoCacheKeeps : Type 0 where
+  pub unread : (fault : HttpFault) → IfSome (closing_of fault) (λ response. says_no_store response ≡ true)
+  pub refused : (refusal : HttpRefusal) → IfSome (refused_with refusal) (λ response. says_no_store response ≡ true)
 
 -- the spelling of such a request, whatever follows it, is that request
 abbrev pub ReadsBackRequest : Type 0

@@ -1,6 +1,6 @@
 //! Laws over the definitions: each function's contract is the law, and nothing calls it.
 
-ghost use Rattle.sig_http.specs.Laws.{HasFewBeside, HasOneRequest, HasOneResponse, IsSoonDecided, ReadsBackRequest, ReadsBackResponse};
+ghost use Rattle.sig_http.specs.Laws.{HasFewBeside, HasOneRequest, HasOneResponse, IsSoonDecided, NoCacheKeeps, ReadsBackRequest, ReadsBackResponse};
 
 /// Two outcomes that the same bytes decide of a request are one, message and bytes after it. With the contract of
 /// `read_request` the answer depends on the bytes of a source alone, and not on the pieces in which it gives them.
@@ -43,4 +43,10 @@ pub fn a_chunked_body_has_few_bytes_beside_its_content()
 /// `read_response` take a further piece of a source only after such bytes.
 pub fn a_chunked_body_is_soon_decided()
     ensures { IsSoonDecided }
+{}
+
+/// No cache may keep the response to a request that can't be read, nor that to one that the routes refuse (RFC 9111, section
+/// 5.2.2.5).
+pub fn no_cache_keeps_a_refusal()
+    ensures { NoCacheKeeps }
 {}

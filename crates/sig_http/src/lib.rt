@@ -33,7 +33,7 @@ mod target;
 mod values;
 mod writing;
 
-pub use answers::{fault_of, refusal_of};
+pub use answers::{empty, fault_of, header, json, no_store, refusal_of};
 pub use fault::{HttpFault, HttpRefusal, SendFault};
 pub use kept::Kept;
 pub use message::{Got, Header, Request, Response};

@@ -1,6 +1,6 @@
 -- How what came of a request is told (RFC 9110, section 15): a refusal of the routes, or its turn.
-use Rattle.std.specs.Prelude.{ℕ, Bool, false, List, [], unwrap_or, Result, Ok, Err}
-use Rattle.sig_http.specs.Answering.{closing as closing_with, refused_with}
+use Rattle.std.specs.Prelude.{ℕ, Bool, List, unwrap_or, Result, Ok, Err}
+use Rattle.sig_http.specs.Answering.{closing as closing_with, empty, refused_with}
 use Rattle.sig_http.specs.Spelling.{response_spelling}
 use Rattle.sig_http.specs.declared.message.Response.{Response}
 use Rattle.sig_journal.specs.declared.node_fault.NodeFault.{NodeFault}
@@ -8,10 +8,6 @@ use Rattle.sig_journal.specs.declared.node_fault.NodeFault.TheVariants.{Store, F
 use Rattle.sig_link.specs.Meaning.{Meaning}
 use Rattle.sig_link.specs.declared.course.Course.{Course}
 use Rattle.sig_link.specs.declared.course.Course.TheVariants.{Refused, Turned}
-
--- a response without a body
-abbrev pub empty : ℕ → Response
-empty status = record { status = status; headers = []; close = false; body = [] }
 
 -- the response where memory runs out (RFC 4918, section 11.5), after which the link closes
 abbrev pub starved : Response

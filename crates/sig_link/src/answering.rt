@@ -7,24 +7,12 @@ ghost use Rattle.sig_link.specs.Answering as spec;
 
 use crate::End;
 use crate::course::Course;
-use sig_http::{Response, refusal_of};
+use sig_http::{Response, empty, refusal_of};
 use sig_journal::NodeFault;
-use sig_json::{Bytes, Items, Memory};
+use sig_json::Memory;
 use sig_links::Link;
 use sig_serving::{LinkEnd, run_out, send};
 use std::alloc::Global;
-
-/// A response without a body, which leaves the link open.
-pub fn empty(alloc: Global, status: u16) -> Response
-    ensures { result ≡ spec.empty status }
-{
-    Response {
-        status,
-        headers: Items::of(Vec::new(alloc)),
-        close: false,
-        body: Bytes::new(alloc),
-    }
-}
 
 /// The response to why a turn has no answer: 503 where the store failed, and 500 where a number would pass its limit (RFC
 /// 9110, sections 15.6.1 and 15.6.4). `Memory` has none.
@@ -32,8 +20,8 @@ pub fn faulted(alloc: Global, fault: NodeFault) -> Result<Response, Memory>
     ensures { IfOk result (λ response. response ≡ spec.faulted fault) }
 {
     match fault {
-        NodeFault::Store => Ok(empty(alloc, 503)),
-        NodeFault::Full(_) => Ok(empty(alloc, 500)),
+        NodeFault::Store => empty(alloc, 503),
+        NodeFault::Full(_) => empty(alloc, 500),
         NodeFault::Memory => Err(Memory),
     }
 }

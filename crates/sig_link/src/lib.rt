@@ -26,7 +26,7 @@ mod threads;
 mod turning;
 mod work;
 
-pub use answering::{empty, faulted};
+pub use answering::faulted;
 pub use end::End;
 pub use log::LinkLog;
 pub use serving::serve_link;

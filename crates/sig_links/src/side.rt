@@ -34,6 +34,12 @@ pub trait Side {
         ensures others { ((view self.new).times ≡ (view self.old).times) × ((view self.new).sent ≡ (view self.old).sent) }
         ensures cause { HasCause (view self.old).faults (view self.new).faults result };
 
+    /// A round begins whose dials, with what is then done over their links, have one bound in time together, which the side
+    /// has of its own. A dial that comes later fails. It changes nothing that is told.
+    fn begin_round(&mut self)
+        ensures view { view self.new ≡ view self.old }
+        ensures out { out self.new ≡ out self.old };
+
     /// The time now, in seconds since the start of 1970.
     fn now(&mut self) -> u64
         ensures time { GivesTime (view self.old).times (view self.new).times result }

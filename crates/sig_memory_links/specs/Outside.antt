@@ -1,5 +1,5 @@
 -- What an outside in memory holds, and what it tells by it.
-use Rattle.std.specs.Prelude.{◌≡◌, ℕ, zero, suc, ◌+◌, List, [], ◌∷◌, ◌++◌, Bool, false, Option, Some, None, map, option_map}
+use Rattle.std.specs.Prelude.{◌≡◌, ℕ, zero, suc, ◌+◌, List, [], ◌∷◌, ◌++◌, Bool, false, ◌||◌, Option, Some, None, is_some, map, option_map}
 use Rattle.sig_links.specs.Told.{Coming, DoorEnd, SideEnd, SidePlan}
 use Rattle.sig_outside.specs.KeptDisk.{Kept, seen}
 use Rattle.sig_memory_links.specs.declared.named.NamedDisk.{NamedDisk}
@@ -65,6 +65,10 @@ store_told stores name = Some (bytes_in (disk_of name stores))
 
 abbrev pub is_out : MemoryStores → List ℕ → Bool
 is_out stores name = is_listed name stores.out
+
+-- whether there is a store with this name, in or out
+abbrev pub is_there : MemoryStores → List ℕ → Option Bool
+is_there stores name = Some (is_some (disk_of name stores) || is_listed name stores.out)
 
 -- without it, as it is out
 abbrev pub without_disk : List ℕ → MemoryStores → MemoryStores

@@ -1,9 +1,9 @@
-ghost use Rattle.std.specs.Prelude.{◌≡◌, ◌⊎◌, ◌↔◌, [], IfOk, IsErr, IsNone, IsTrue, None, OnErr, OnOk, Some, option_map};
+ghost use Rattle.std.specs.Prelude.{◌≡◌, ◌⊎◌, ◌↔◌, [], IfNone, IfOk, IfSome, IsErr, IsNone, IsTrue, None, OnErr, OnOk, Some, is_some, option_map, true};
 ghost use Rattle.sig_outside.specs.Causes.{HasCause};
 ghost use Rattle.sig_links.specs.Told.{KeepsOthers};
 ghost use Rattle.sig_memory_links.specs.Lent.{called, fails_next, lent_one};
 ghost use Rattle.sig_memory_links.specs.Memory.{pair_of};
-ghost use Rattle.sig_memory_links.specs.Outside.{IsDiskOf, IsNextDoor, disk_of, is_out, settings_told, source_of, store_told, without_disk, without_source};
+ghost use Rattle.sig_memory_links.specs.Outside.{IsDiskOf, IsNextDoor, disk_of, is_out, is_there, settings_told, source_of, store_told, without_disk, without_source};
 
 use crate::outside_doors::HeldDoors;
 use crate::outside_settings::HeldSettings;
@@ -108,13 +108,15 @@ impl Outside for MemOutside {
 
     ghost use Rattle.std.specs.Prelude.{Some, map};
     ghost use Rattle.sig_memory_links.specs.Doors.{coming_of};
-    ghost use Rattle.sig_memory_links.specs.Outside.{door_end_on, is_out, settings_told, side_end_on, side_plan, store_told};
+    ghost use Rattle.sig_memory_links.specs.Outside.{door_end_on, is_out, is_there, settings_told, side_end_on, side_plan, store_told};
 
     ghost settings_of = { λ o. settings_told o.settings };
 
     ghost held = { λ o. store_told o.stores };
 
     ghost lent = { λ o. is_out o.stores };
+
+    ghost there = { λ o. is_there o.stores };
 
     ghost doors = { λ o. Some (map (λ door. map coming_of door.coming) o.doors.ahead) };
 
@@ -167,6 +169,7 @@ impl Outside for MemOutside {
         ensures out { OnOk result (self.new.stores ≡ without_disk name.now self.old.stores) }
         ensures none { OnErr result (self.new.stores ≡ self.old.stores) }
         ensures named { KeepsOthers name.now (store_told self.old.stores) (store_told self.new.stores) × KeepsOthers name.now (is_out self.old.stores) (is_out self.new.stores) }
+        ensures made { OnOk result (is_there self.new.stores name.now ≡ Some true) × KeepsOthers name.now (is_there self.old.stores) (is_there self.new.stores) }
         ensures planned { IsTrue (fails_next self.old.plan) → IsErr result }
         ensures others { self.new ≡ record self.old { stores = self.new.stores; plan = called self.old.plan; store_faults = self.new.store_faults } }
         ensures cause { HasCause self.old.store_faults self.new.store_faults result }
@@ -176,6 +179,29 @@ impl Outside for MemOutside {
         }
         match self.stores.take(name) {
             Ok(disk) => Ok(disk),
+            Err(_) => Err(self.store_faults.raise()),
+        }
+    }
+
+    // It fails where that is planned or the store is out, and else only where it is refused memory.
+    fn existing_store(&mut self, name: &str) -> Result<Option<LentDisk<MemDisk>>, Failed>
+        ensures found { IfOk result (λ found. is_there self.old.stores name.now ≡ Some (is_some found)) }
+        ensures given { IfOk result (λ found. option_map (λ disk. disk.disk) found ≡ option_map (λ given. given.disk) (disk_of name.now self.old.stores)) }
+        ensures new { IfOk result (λ found. IfSome found (λ disk. disk.faults ≡ 0)) }
+        ensures out { IfOk result (λ found. IfSome found (λ disk. self.new.stores ≡ without_disk name.now self.old.stores)) }
+        ensures left { IfOk result (λ found. IfNone found (self.new.stores ≡ self.old.stores)) }
+        ensures none { OnErr result (self.new.stores ≡ self.old.stores) }
+        ensures named { KeepsOthers name.now (store_told self.old.stores) (store_told self.new.stores) × KeepsOthers name.now (is_out self.old.stores) (is_out self.new.stores) }
+        ensures stay { is_there self.new.stores ≡ is_there self.old.stores }
+        ensures planned { IsTrue (fails_next self.old.plan) → IsErr result }
+        ensures others { self.new ≡ record self.old { stores = self.new.stores; plan = called self.old.plan; store_faults = self.new.store_faults } }
+        ensures cause { HasCause self.old.store_faults self.new.store_faults result }
+    {
+        if self.plan.fails_next() {
+            return Err(self.store_faults.raise());
+        }
+        match self.stores.find(name) {
+            Ok(found) => Ok(found),
             Err(_) => Err(self.store_faults.raise()),
         }
     }

@@ -126,6 +126,9 @@ impl Side for MemSide {
         }
     }
 
+    // A side in memory has no bound in time.
+    fn begin_round(&mut self) {}
+
     fn now(&mut self) -> u64 {
         if self.times.len() > 1 {
             return self.times.remove(0);

@@ -1,14 +1,14 @@
 //! The stores of an outside in memory.
 
-ghost use Rattle.std.specs.Prelude.{◌≡◌, [], ◌∷◌, IfOk, IsTrue, None, OnErr, OnOk, false, option_map};
+ghost use Rattle.std.specs.Prelude.{◌≡◌, [], ◌∷◌, IfNone, IfOk, IfSome, IsTrue, None, OnErr, OnOk, Some, false, is_some, option_map};
 ghost use Rattle.sig_memory_links.specs.Named.{but_named, is_listed};
-ghost use Rattle.sig_memory_links.specs.Outside.{IsDiskOf, disk_of, without_disk};
+ghost use Rattle.sig_memory_links.specs.Outside.{IsDiskOf, disk_of, is_there, without_disk};
 
 use crate::lent::put_at;
 use crate::named::{place_of, take_named};
 use crate::{LentDisk, NamedDisk};
 use sig_json::{Bytes, Items, Memory, Text};
-use sig_outside::MemDisk;
+use sig_outside::{Failed, MemDisk};
 use std::alloc::Global;
 use std::marker::Model;
 
@@ -59,6 +59,37 @@ impl HeldStores {
             Some(given) => given.disk,
             None => empty_disk(self.alloc),
         }))
+    }
+
+    // The first store with this name, where there is one. It fails where that is out, and else only where it is refused memory.
+    pub(crate) fn find(&mut self, name: &str) -> Result<Option<LentDisk<MemDisk>>, Failed>
+        ensures there { IfOk result (λ found. is_there self.old name.now ≡ Some (is_some found)) }
+        ensures found { IfOk result (λ found. option_map (λ disk. disk.disk) found ≡ option_map (λ given. given.disk) (disk_of name.now self.old)) }
+        ensures whole { IfOk result (λ found. IfSome found (λ disk. disk.faults ≡ 0)) }
+        ensures some { IfOk result (λ found. IfSome found (λ disk. self.new ≡ without_disk name.now self.old)) }
+        ensures none { IfOk result (λ found. IfNone found (self.new ≡ self.old)) }
+        ensures err { OnErr result (self.new ≡ self.old) }
+    {
+        if self.disk(name).is_some() {
+            return match self.take(name) {
+                Ok(disk) => Ok(Some(disk)),
+                Err(_) => Err(Failed),
+            };
+        }
+        if self.is_out(name) {
+            return Err(Failed);
+        }
+        Ok(None)
+    }
+
+    // Whether one with this name is out.
+    fn is_out(&self, name: &str) -> bool
+        ensures { result ≡ is_listed name.now self.now.out }
+    {
+        match place_of(self.out.as_slice(), name) {
+            Some(_) => true,
+            None => false,
+        }
     }
 
     // Takes back a store under this name. It isn't kept where none of this name is out.

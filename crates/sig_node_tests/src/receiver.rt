@@ -61,7 +61,7 @@ struct Told {
 }
 
 fn told_by(node: &mut RxNode<MemDisk>, call: &RxCall) -> Told {
-    let tokens = node.entries().len();
+    let tokens = node.tokens();
     let first = is_seen(node, call);
     let is_seen = first == Ok(true);
     let breaks = fails_twice(node, first, call);

@@ -107,7 +107,7 @@ fn load_halted(
 {
     match load_rest(alloc, node, rules) {
         Ok(again) => {
-            let kept = again.entries().len() > before;
+            let kept = again.tokens() > before;
             Ok((again, Halted::Crashed { kept }))
         }
         Err(Memory) => Err(RxFault::Memory),
@@ -120,7 +120,7 @@ fn take_halted(node: &mut RxNode<StillDisk>, call: &RxCall) -> Result<Option<RxA
         → StopsAfter true calls fill (stop node.old.kept.store.journal.written) → RxTaken rules name texts call.now (rests_with_it calls fill) node.new o) }
     ensures full { (n : ℕ) → IsErrOf result (RxFault.Full n) → (rules : Settings) (name : List ℕ) (texts : List (List ℕ)) → RxAt rules name node.old texts → RxPasses rules name texts call.now n }
 {
-    let before = node.entries().len();
+    let before = node.tokens();
     match node.take(0, call) {
         Ok(answer) => Ok(answered(node, before, answer)),
         Err(RxFault::Store) => Ok(None),
@@ -134,7 +134,7 @@ fn answered(node: &mut RxNode<StillDisk>, before: usize, answer: RxAnswer) -> Op
     ensures idle { length node.old.kept.entries ≡ before → (result ≡ Some answer) × ReadsBoth node.old.kept.store node.new.kept.store × (node.new.rules ≡ node.old.rules) × (node.new.kept.state ≡ node.old.kept.state) × (node.new.kept.entries ≡ node.old.kept.entries) }
     ensures made { length node.old.kept.entries ≡ before + 1 → (result ≡ None) × (node.new ≡ node.old) }
 {
-    if node.entries().len() > before {
+    if node.tokens() > before {
         drop(answer);
         return None;
     }
@@ -159,7 +159,7 @@ pub fn stop_rx(
     ensures full { (n : ℕ) → IsErrOf result (RxFault.Full n) → (name : List ℕ) (texts : List (List ℕ)) → RxAt rules name node texts → RxPasses rules name texts call.now n }
 {
     let mut node = node;
-    let before = node.entries().len();
+    let before = node.tokens();
     node.stop_after(calls, fill);
     match take_halted(&mut node, call) {
         Ok(Some(answer)) => Ok((node, Halted::Answered(answer))),

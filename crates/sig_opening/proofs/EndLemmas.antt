@@ -1,15 +1,16 @@
 -- What the ends of runs come from, and what they tell.
-use Rattle.std.proofs.Common.{◌≡◌, ℕ, true, List, Option, Result, inl, inr, sym, subst}
-use Rattle.std.specs.Prelude.{is_some}
+use Rattle.std.proofs.Common.{◌≡◌, ◌∙◌, ℕ, Bool, true, false, List, Option, Some, None, Result, ap, inl, inr, sym, subst}
+use Rattle.std.specs.Prelude.{◌⊎◌, is_some, unwrap_or}
 use Rattle.sig_outside.specs.Causes.{Rose}
 use Rattle.sig_journal.specs.declared.fault.LoadFault.{LoadFault}
-use Rattle.sig_journal.specs.declared.fault.LoadFault.TheVariants as load
 use Rattle.sig_settings.specs.declared.fault.SettingsFault.{SettingsFault}
-use Rattle.sig_opening.specs.Ends.{BreaksAfter, ByEnd, IsEndOfWatches, of_load, of_unread}
-use Rattle.sig_opening.specs.Files.{HaltsStore, IsDamaged}
+use Rattle.sig_opening.specs.Ends.{BreaksAfter, ByEnd, IsEndBefore, IsEndOfWatches, of_unopened, of_unread}
+use Rattle.sig_opening.specs.Files.{AreThere, HaltsOpening, IsDamaged, IsThere}
 use Rattle.sig_opening.specs.Settings.{AreRefused, HaltsSettings}
 use Rattle.sig_opening.specs.declared.ending.ServeEnd.{ServeEnd}
-use Rattle.sig_opening.specs.declared.ending.ServeEnd.TheVariants.{Done, SettingsFailed, Refused, StoreFailed, Damaged, NetworkFailed, Disagree, Memory}
+use Rattle.sig_opening.specs.declared.ending.ServeEnd.TheVariants.{Done, SettingsFailed, Refused, NoStore, StoreFailed, Damaged, NetworkFailed, Disagree, Memory}
+use Rattle.sig_opening.specs.declared.unopened.Unopened.{Unopened}
+use Rattle.sig_opening.specs.declared.unopened.Unopened.TheVariants as unopened
 use Rattle.sig_opening.specs.declared.unread.Unread.{Unread}
 use Rattle.sig_opening.specs.declared.unread.Unread.TheVariants as unread
 
@@ -27,11 +28,12 @@ unread_refused reads unread.Failed told before now h member is = absurd cc
 unread_refused reads (unread.Refused named) told before now h member is = let same : named ≡ member = cc in subst (λ (m : List ℕ). AreRefused reads told m) same h
 unread_refused reads unread.Memory told before now h member is = absurd cc
 
--- no store failed, none was damaged, and no door
+-- no store was looked for, and no door
 abbrev pub IsBefore : ServeEnd → Type 0
 IsBefore Done = ⊥
 IsBefore SettingsFailed = Unit {0}
 IsBefore (Refused member) = Unit {0}
+IsBefore NoStore = ⊥
 IsBefore StoreFailed = ⊥
 IsBefore (Damaged file at) = ⊥
 IsBefore NetworkFailed = ⊥
@@ -56,47 +58,86 @@ unread_ends cause end none run is h = subst (λ (e : ServeEnd). ByEnd e none run
 
 -- ---- where no node was loaded
 
-pub load_failed : {S : Type 0} (means : List ℕ → List ℕ → Result S LoadFault) (fault : LoadFault) (a b : Option (List ℕ)) (before now : ℕ) → HaltsStore means fault a b before now
-    → of_load fault ≡ StoreFailed → Rose before now
-load_failed means load.Store a b before now h is = h
-load_failed means (load.Damaged file at) a b before now h is = absurd cc
-load_failed means load.Memory a b before now h is = absurd cc
+pub load_missing : {S : Type 0} (means : List ℕ → List ℕ → Result S LoadFault) (cause : Unopened) (lacks : Type 0) (a b : Option (List ℕ)) (before now : ℕ) → HaltsOpening means cause lacks a b before now
+    → of_unopened cause ≡ NoStore → lacks
+load_missing means unopened.Missing lacks a b before now h is = h
+load_missing means unopened.Failed lacks a b before now h is = absurd cc
+load_missing means (unopened.Damaged file at) lacks a b before now h is = absurd cc
+load_missing means unopened.Memory lacks a b before now h is = absurd cc
 
-pub load_damaged : {S : Type 0} (means : List ℕ → List ℕ → Result S LoadFault) (fault : LoadFault) (a b : Option (List ℕ)) (before now : ℕ) → HaltsStore means fault a b before now
-    → (file at : ℕ) → of_load fault ≡ Damaged file at → IsDamaged means a b file at
-load_damaged means load.Store a b before now h file at is = absurd cc
-load_damaged means (load.Damaged file' at') a b before now h file at is =
+pub load_failed : {S : Type 0} (means : List ℕ → List ℕ → Result S LoadFault) (cause : Unopened) (lacks : Type 0) (a b : Option (List ℕ)) (before now : ℕ) → HaltsOpening means cause lacks a b before now
+    → of_unopened cause ≡ StoreFailed → Rose before now
+load_failed means unopened.Missing lacks a b before now h is = absurd cc
+load_failed means unopened.Failed lacks a b before now h is = h
+load_failed means (unopened.Damaged file at) lacks a b before now h is = absurd cc
+load_failed means unopened.Memory lacks a b before now h is = absurd cc
+
+pub load_damaged : {S : Type 0} (means : List ℕ → List ℕ → Result S LoadFault) (cause : Unopened) (lacks : Type 0) (a b : Option (List ℕ)) (before now : ℕ) → HaltsOpening means cause lacks a b before now
+    → (file at : ℕ) → of_unopened cause ≡ Damaged file at → IsDamaged means a b file at
+load_damaged means unopened.Missing lacks a b before now h file at is = absurd cc
+load_damaged means unopened.Failed lacks a b before now h file at is = absurd cc
+load_damaged means (unopened.Damaged file' at') lacks a b before now h file at is =
     let files : file' ≡ file = cc in
     let ats : at' ≡ at = cc in
     subst (λ (n : ℕ). IsDamaged means a b file n) ats (subst (λ (n : ℕ). IsDamaged means a b n at') files h)
-load_damaged means load.Memory a b before now h file at is = absurd cc
+load_damaged means unopened.Memory lacks a b before now h file at is = absurd cc
 
 -- no settings failed, none were refused, and no door
 abbrev pub IsOfStore : ServeEnd → Type 0
 IsOfStore Done = ⊥
 IsOfStore SettingsFailed = ⊥
 IsOfStore (Refused member) = ⊥
+IsOfStore NoStore = Unit {0}
 IsOfStore StoreFailed = Unit {0}
 IsOfStore (Damaged file at) = Unit {0}
 IsOfStore NetworkFailed = ⊥
 IsOfStore (Disagree differ) = ⊥
 IsOfStore Memory = Unit {0}
 
-load_of_store : (fault : LoadFault) → IsOfStore (of_load fault)
-load_of_store load.Store = tt
-load_of_store (load.Damaged file at) = tt
-load_of_store load.Memory = tt
+load_of_store : (cause : Unopened) → IsOfStore (of_unopened cause)
+load_of_store unopened.Missing = tt
+load_of_store unopened.Failed = tt
+load_of_store (unopened.Damaged file at) = tt
+load_of_store unopened.Memory = tt
 
-pub load_other : (fault : LoadFault) (end : ServeEnd) → (IsOfStore end → ⊥) → of_load fault ≡ end → ⊥
-load_other fault end not is = not (subst IsOfStore is (load_of_store fault))
+pub load_other : (cause : Unopened) (end : ServeEnd) → (IsOfStore end → ⊥) → of_unopened cause ≡ end → ⊥
+load_other cause end not is = not (subst IsOfStore is (load_of_store cause))
 
-load_none : (fault : LoadFault) (none run : Type 0) → none → ByEnd (of_load fault) none run
-load_none load.Store none run h = inl h
-load_none (load.Damaged file at) none run h = h
-load_none load.Memory none run h = inl h
+load_none : (cause : Unopened) (none run : Type 0) → none → ByEnd (of_unopened cause) none run
+load_none unopened.Missing none run h = h
+load_none unopened.Failed none run h = inl h
+load_none (unopened.Damaged file at) none run h = h
+load_none unopened.Memory none run h = inl h
 
-pub load_ends : (fault : LoadFault) (end : ServeEnd) (none run : Type 0) → end ≡ of_load fault → none → ByEnd end none run
-load_ends fault end none run is h = subst (λ (e : ServeEnd). ByEnd e none run) (sym is) (load_none fault none run h)
+pub load_ends : (cause : Unopened) (end : ServeEnd) (none run : Type 0) → end ≡ of_unopened cause → none → ByEnd end none run
+load_ends cause end none run is h = subst (λ (e : ServeEnd). ByEnd e none run) (sym is) (load_none cause none run h)
+
+-- a run that came to no watch, where no settings were read or no node was loaded
+unread_came : (cause : Unread) → IsEndBefore (of_unread cause)
+unread_came unread.Failed = tt
+unread_came (unread.Refused member) = tt
+unread_came unread.Memory = tt
+
+pub unread_early : (cause : Unread) (end : ServeEnd) → end ≡ of_unread cause → IsEndBefore end
+unread_early cause end is = subst IsEndBefore (sym is) (unread_came cause)
+
+load_came : (cause : Unopened) → IsEndBefore (of_unopened cause)
+load_came unopened.Missing = tt
+load_came unopened.Failed = tt
+load_came (unopened.Damaged file at) = tt
+load_came unopened.Memory = tt
+
+pub load_early : (cause : Unopened) (end : ServeEnd) → end ≡ of_unopened cause → IsEndBefore end
+load_early cause end is = subst IsEndBefore (sym is) (load_came cause)
+
+one_there : (told : Option Bool) → IsThere told → told ≡ Some false → ⊥
+one_there None there missing = cc missing
+one_there (Some is) there missing = absurd (cc (sym there ∙ ap (λ (o : Option Bool). unwrap_or o true) missing))
+
+-- files that are there aren't missing
+pub not_missing : (a b : Option Bool) → AreThere a b → (a ≡ Some false) ⊎ (b ≡ Some false) → ⊥
+not_missing a b there (inl missing) = one_there a there.0 missing
+not_missing a b there (inr missing) = one_there b there.1 missing
 
 -- ---- after watches
 
@@ -111,6 +152,7 @@ pub run_end : (end : ServeEnd) (none run : Type 0) → IsEndOfWatches end → ru
 run_end Done none run kind h = h
 run_end SettingsFailed none run kind h = absurd kind
 run_end (Refused member) none run kind h = absurd kind
+run_end NoStore none run kind h = absurd kind
 run_end StoreFailed none run kind h = inr h
 run_end (Damaged file at) none run kind h = absurd kind
 run_end NetworkFailed none run kind h = inr h
@@ -122,6 +164,7 @@ pub by_end : (end : ServeEnd) (none run run' : Type 0) → (run → run') → By
 by_end Done none run run' f h = f h
 by_end SettingsFailed none run run' f h = h
 by_end (Refused member) none run run' f h = h
+by_end NoStore none run run' f h = h
 by_end StoreFailed none run run' f (inl h) = inl h
 by_end StoreFailed none run run' f (inr h) = inr (f h)
 by_end (Damaged file at) none run run' f h = h

@@ -1,5 +1,5 @@
 -- What the outside tells of files that are opened, loaded and put back.
-use Rattle.std.proofs.Common.{◌≡◌, ◌∙◌, ℕ, ◌<◌, Bool, true, false, List, Option, Some, None, Result, Ok, Err, inl, inr, refl, sym, ap, subst, arith}
+use Rattle.std.proofs.Common.{◌≡◌, ◌∙◌, ℕ, ◌<◌, ◌≤◌, Bool, true, false, List, Option, Some, None, Result, Ok, Err, inl, inr, refl, sym, ap, subst, arith}
 use Rattle.std.specs.Prelude.{◌⊎◌, IsSome, IsTrue}
 use Rattle.sig_outside.specs.Causes.{Rose}
 use Rattle.sig_links.specs.Told.{Gathers, stored}
@@ -14,9 +14,11 @@ use Rattle.sig_journal.specs.Taking.{Taking, loaded}
 use Rattle.sig_opening.specs.Closing.{PutsBack}
 use Rattle.sig_opening.specs.Ends.{BreaksAfter, BreaksBy, fails_by}
 use Rattle.sig_opening.specs.declared.ending.ServeEnd.{ServeEnd}
-use Rattle.sig_opening.specs.declared.ending.ServeEnd.TheVariants.{Done, SettingsFailed, Refused, StoreFailed, Damaged, NetworkFailed, Disagree, Memory}
-use Rattle.sig_opening.specs.Files.{HaltsStore, IfBoth, IsToldBy}
+use Rattle.sig_opening.specs.declared.ending.ServeEnd.TheVariants.{Done, SettingsFailed, Refused, NoStore, StoreFailed, Damaged, NetworkFailed, Disagree, Memory}
+use Rattle.sig_opening.specs.Files.{HaltsFiles, HaltsOpening, HaltsStore, IfBoth, IsToldBy, of_load}
 use Rattle.sig_opening.specs.Stays.{TellsSame}
+use Rattle.sig_opening.specs.declared.unopened.Unopened.{Unopened}
+use Rattle.sig_opening.specs.declared.unopened.Unopened.TheVariants as unopened
 
 -- ---- one file
 
@@ -113,6 +115,31 @@ load_halts means told seen (load.Damaged file at) a b first second before now p 
     is_damaged means file at a b (inr (inl store)) = absurd cc
     is_damaged means file at a b (inr (inr h)) = h
 
+-- why its files weren't opened, by what that is of both, and by counts that rise as far or farther
+pub halts_farther : (cause : Unopened) (lacks more : Type 0) (before between since now : ℕ) → HaltsFiles cause lacks between since → (lacks → more) → before ≤ between → since ≤ now → HaltsFiles cause more before now
+halts_farther unopened.Missing lacks more before between since now h f p q = f h
+halts_farther unopened.Failed lacks more before between since now h f p q = omega (arith, h, p, q)
+halts_farther (unopened.Damaged file at) lacks more before between since now h f p q = absurd h
+halts_farther unopened.Memory lacks more before between since now h f p q = absurd h
+
+-- so no node was loaded
+pub files_halt : {S : Type 0} (means : List ℕ → List ℕ → Result S LoadFault) (cause : Unopened) (lacks : Type 0) (a b : Option (List ℕ)) (before now : ℕ) → HaltsFiles cause lacks before now → HaltsOpening means cause lacks a b before now
+files_halt means unopened.Missing lacks a b before now h = h
+files_halt means unopened.Failed lacks a b before now h = h
+files_halt means (unopened.Damaged file at) lacks a b before now h = absurd h
+files_halt means unopened.Memory lacks a b before now h = absurd h
+
+-- nor was one where both were opened
+pub store_halts : {S : Type 0} (means : List ℕ → List ℕ → Result S LoadFault) (fault : LoadFault) (cause : Unopened) (lacks : Type 0) (a b : Option (List ℕ)) (before between now : ℕ) → cause ≡ of_load fault
+    → between ≡ before → HaltsStore means fault a b between now → HaltsOpening means cause lacks a b before now
+store_halts means fault cause lacks a b before between now is same h =
+    subst (λ (u : Unopened). HaltsOpening means u lacks a b before now) (sym is) (subst (λ (n : ℕ). HaltsOpening means (of_load fault) lacks a b n now) same (halts fault h))
+  where
+    halts : (fault : LoadFault) → HaltsStore means fault a b between now → HaltsOpening means (of_load fault) lacks a b between now
+    halts load.Store h = h
+    halts (load.Damaged file at) h = h
+    halts load.Memory h = tt
+
 -- ---- a store that is put back
 
 -- what a store tells with its file in force is what its two files tell
@@ -180,6 +207,7 @@ pub tells_after : {S C : Type 0} (means : List ℕ → List ℕ → Result S Loa
 tells_after means after state a b Done broken_at kept h = kept false h
 tells_after means after state a b SettingsFailed broken_at kept h = kept false h
 tells_after means after state a b (Refused member) broken_at kept h = kept false h
+tells_after means after state a b NoStore broken_at kept h = kept false h
 tells_after means after state a b StoreFailed broken_at kept h = kept true h
 tells_after means after state a b (Damaged file at) broken_at kept h = kept false h
 tells_after means after state a b NetworkFailed broken_at kept h = kept false h

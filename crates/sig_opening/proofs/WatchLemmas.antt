@@ -5,7 +5,7 @@ use Rattle.std.proofs.lemmas.List.Elements.{All-append, All-cons, All-nil}
 use Rattle.sig_opening.specs.Watches.{Agree, AgreesBy, AreInRow, EndShut, GoesOn, RunsTo, Standing, StopsAt, Tells}
 use Rattle.sig_opening.specs.Ends.{IsEndOfWatches}
 use Rattle.sig_opening.specs.declared.ending.ServeEnd.{ServeEnd}
-use Rattle.sig_opening.specs.declared.ending.ServeEnd.TheVariants.{Done, SettingsFailed, Refused, StoreFailed, Damaged, NetworkFailed, Disagree, Memory}
+use Rattle.sig_opening.specs.declared.ending.ServeEnd.TheVariants.{Done, SettingsFailed, Refused, NoStore, StoreFailed, Damaged, NetworkFailed, Disagree, Memory}
 
 -- ---- where nothing differs
 
@@ -114,6 +114,7 @@ agrees_after : {W : Type 0} (tells : W → Tells) (end : ServeEnd) (first second
 agrees_after tells Done first second one two = agree_after tells first second one two
 agrees_after tells SettingsFailed first second one two = agree_after tells first second one two
 agrees_after tells (Refused member) first second one two = agree_after tells first second one two
+agrees_after tells NoStore first second one two = agree_after tells first second one two
 agrees_after tells StoreFailed first second one two = agree_after tells first second one two
 agrees_after tells (Damaged file at) first second one two = agree_after tells first second one two
 agrees_after tells NetworkFailed first second one two = agree_after tells first second one two

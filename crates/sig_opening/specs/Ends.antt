@@ -1,11 +1,11 @@
 -- How a run ends, and what its end tells of the run.
 use Rattle.std.specs.Prelude.{◌≡◌, ◌⊎◌, ℕ, Bool, true, false, is_some, Option, None}
-use Rattle.sig_journal.specs.declared.fault.LoadFault.{LoadFault}
-use Rattle.sig_journal.specs.declared.fault.LoadFault.TheVariants as load
+use Rattle.sig_opening.specs.declared.unopened.Unopened.{Unopened}
+use Rattle.sig_opening.specs.declared.unopened.Unopened.TheVariants as unopened
 use Rattle.sig_opening.specs.declared.unread.Unread.{Unread}
 use Rattle.sig_opening.specs.declared.unread.Unread.TheVariants as unread
 use Rattle.sig_opening.specs.declared.ending.ServeEnd.{ServeEnd}
-use Rattle.sig_opening.specs.declared.ending.ServeEnd.TheVariants.{Done, SettingsFailed, Refused, StoreFailed, Damaged, NetworkFailed, Disagree, Memory}
+use Rattle.sig_opening.specs.declared.ending.ServeEnd.TheVariants.{Done, SettingsFailed, Refused, NoStore, StoreFailed, Damaged, NetworkFailed, Disagree, Memory}
 
 -- the end where no settings were read, or no node was loaded, for this cause
 abbrev pub of_unread : Unread → ServeEnd
@@ -13,16 +13,18 @@ of_unread unread.Failed = SettingsFailed
 of_unread (unread.Refused member) = Refused member
 of_unread unread.Memory = Memory
 
-abbrev pub of_load : LoadFault → ServeEnd
-of_load load.Store = StoreFailed
-of_load (load.Damaged file at) = Damaged file at
-of_load load.Memory = Memory
+abbrev pub of_unopened : Unopened → ServeEnd
+of_unopened unopened.Missing = NoStore
+of_unopened unopened.Failed = StoreFailed
+of_unopened (unopened.Damaged file at) = Damaged file at
+of_unopened unopened.Memory = Memory
 
 -- a run that came to its watches can end so
 abbrev pub IsEndOfWatches : ServeEnd → Type 0
 IsEndOfWatches Done = Unit {0}
 IsEndOfWatches SettingsFailed = ⊥
 IsEndOfWatches (Refused member) = ⊥
+IsEndOfWatches NoStore = ⊥
 IsEndOfWatches StoreFailed = Unit {0}
 IsEndOfWatches (Damaged file at) = ⊥
 IsEndOfWatches NetworkFailed = Unit {0}
@@ -34,6 +36,7 @@ abbrev pub ByEnd : ServeEnd → Type 0 → Type 0 → Type 0
 ByEnd Done none run = run
 ByEnd SettingsFailed none run = none
 ByEnd (Refused member) none run = none
+ByEnd NoStore none run = none
 ByEnd StoreFailed none run = none ⊎ run
 ByEnd (Damaged file at) none run = none
 ByEnd NetworkFailed none run = none ⊎ run
@@ -45,6 +48,7 @@ abbrev pub fails_by : ServeEnd → Bool
 fails_by Done = false
 fails_by SettingsFailed = false
 fails_by (Refused member) = false
+fails_by NoStore = false
 fails_by StoreFailed = true
 fails_by (Damaged file at) = false
 fails_by NetworkFailed = false
@@ -60,3 +64,15 @@ abbrev pub BreaksAfter : ServeEnd → Option ℕ → Type 0
 BreaksAfter (Disagree differ) broken_at = Unit {0}
 BreaksAfter StoreFailed broken_at = BreaksBy true broken_at
 BreaksAfter _ broken_at = BreaksBy false broken_at
+
+-- a run that came to no watch can end so
+abbrev pub IsEndBefore : ServeEnd → Type 0
+IsEndBefore Done = ⊥
+IsEndBefore SettingsFailed = Unit {0}
+IsEndBefore (Refused member) = Unit {0}
+IsEndBefore NoStore = Unit {0}
+IsEndBefore StoreFailed = Unit {0}
+IsEndBefore (Damaged file at) = Unit {0}
+IsEndBefore NetworkFailed = ⊥
+IsEndBefore (Disagree differ) = ⊥
+IsEndBefore Memory = Unit {0}

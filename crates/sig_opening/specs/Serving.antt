@@ -1,12 +1,12 @@
 -- A run between the store that is opened and the one that is put back, as the outside tells it.
-use Rattle.std.specs.Prelude.{◌≡◌, ℕ, List, Bool, Option, Result}
+use Rattle.std.specs.Prelude.{◌≡◌, ◌⊎◌, ℕ, List, Bool, false, Option, Some, Result}
 use Rattle.sig_journal.specs.declared.fault.LoadFault.{LoadFault}
 use Rattle.sig_links.specs.Told.{Coming, DoorEnd}
 use Rattle.sig_outside.specs.declared.place.Place.{Place}
 use Rattle.sig_links.specs.Views.{DoorView}
 use Rattle.sig_opening.specs.Closing.{PutsBack}
 use Rattle.sig_opening.specs.Door.{Doors, HasDoor, doors_of}
-use Rattle.sig_opening.specs.Ends.{fails_by}
+use Rattle.sig_opening.specs.Ends.{IsEndBefore, fails_by}
 use Rattle.sig_opening.specs.Files.{IfBoth, StandsForState}
 use Rattle.sig_opening.specs.Stays.{TellsSame}
 use Rattle.sig_opening.specs.Watches.{AreInRow, EndSo, Standing, Tells, standing}
@@ -25,6 +25,10 @@ around held doors back a b outside = record { a = held outside a; b = held outsi
 pub record NoRun (old new : Around) : Type 0 where
   pub files : TellsSame old.a new.a × TellsSame old.b new.b
   pub doors : new.doors ≡ old.doors
+
+-- where a file of the store isn't there, no watch began, and the run ends as one that came to none
+abbrev pub UnlessThere : Option Bool → Option Bool → ServeEnd → Around → Around → Type 0
+UnlessThere a b end old new = ((a ≡ Some false) ⊎ (b ≡ Some false)) → IsEndBefore end × NoRun old new
 
 -- the store was opened, and told one state; the door was opened at this place; the watches began with that state and that door,
 -- one after the other; and the store was put back with what that state comes to with them all. It is said by what two files

@@ -1,8 +1,7 @@
 ghost use Rattle.std.specs.Prelude.{◌≡◌};
-ghost use Rattle.sig_opening.specs.Ends.{of_load, of_unread};
+ghost use Rattle.sig_opening.specs.Ends.{of_unopened, of_unread};
 
-use crate::Unread;
-use sig_journal::LoadFault;
+use crate::{Unopened, Unread};
 use sig_json::Text;
 use sig_logs::Differ;
 
@@ -16,6 +15,8 @@ pub enum ServeEnd {
     /// What is at this path of the settings is missing or wrong; it is `length` where there are too many bytes, and `body`
     /// where they spell no JSON object. No file of the store was opened.
     Refused(Text),
+    /// A file of the store isn't there. None was made, and the door wasn't opened.
+    NoStore,
     /// A file of the store couldn't be opened, or its disk failed. The outside counted it as a fault of the stores.
     StoreFailed,
     /// The bytes of a file of the store, 0 for the first and 1 for the second, are no journal at this offset, or the record
@@ -42,14 +43,15 @@ impl ServeEnd {
         }
     }
 
-    /// The end where no node was loaded, for this fault.
-    pub fn of_load(fault: LoadFault) -> ServeEnd
-        ensures { result ≡ of_load fault }
+    /// The end where no node was loaded, for this cause.
+    pub fn of_unopened(cause: Unopened) -> ServeEnd
+        ensures { result ≡ of_unopened cause }
     {
-        match fault {
-            LoadFault::Store => ServeEnd::StoreFailed,
-            LoadFault::Damaged { file, at } => ServeEnd::Damaged { file, at },
-            LoadFault::Memory => ServeEnd::Memory,
+        match cause {
+            Unopened::Missing => ServeEnd::NoStore,
+            Unopened::Failed => ServeEnd::StoreFailed,
+            Unopened::Damaged { file, at } => ServeEnd::Damaged { file, at },
+            Unopened::Memory => ServeEnd::Memory,
         }
     }
 }

@@ -9,7 +9,8 @@
 //! It stands on `sig_links` for the outside, on `sig_settings` for the faults of settings, on `sig_journal` for why no store is
 //! loaded, and on `sig_watch` for what is served. What is loaded, be it a transmitter or a receiver, is an instance of
 //! `Stored`, which says what its store stands for. Promised: bytes that are told are read whole up to their limit; where
-//! nothing was read or opened, the outside counted a fault of that kind, or memory ran out; the node that is loaded stands
+//! nothing was read or opened, the outside counted a fault of that kind, a file of the store isn't there, or memory ran out; no
+//! file is made; the node that is loaded stands
 //! for what its files told; and what was opened is given back on every path. Left out: what settings say, and the door, which
 //! each server has of its own; `specs/` has what both say of their watches.
 #![tactic(auto)]
@@ -21,6 +22,7 @@ mod reading;
 mod settings;
 mod stored;
 mod threads;
+mod unopened;
 mod unread;
 
 pub use ending::ServeEnd;
@@ -29,4 +31,5 @@ pub use opening::{give_back, open};
 pub use reading::{ReadFault, whole_of};
 pub use settings::bytes_from;
 pub use stored::Stored;
+pub use unopened::Unopened;
 pub use unread::Unread;

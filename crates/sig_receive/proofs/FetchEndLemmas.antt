@@ -1,17 +1,17 @@
 -- The ends of a fetch where no settings were read, or no node was loaded.
 use Rattle.std.proofs.Common.{◌≡◌, ℕ, List, Option, inl, sym, subst}
 use Rattle.sig_outside.specs.Causes.{Rose}
-use Rattle.sig_journal.specs.declared.fault.LoadFault.{LoadFault}
-use Rattle.sig_journal.specs.declared.fault.LoadFault.TheVariants as load
-use Rattle.sig_opening.specs.Files.{HaltsStore}
+use Rattle.sig_opening.specs.Files.{HaltsOpening}
 use Rattle.sig_opening.specs.Settings.{HaltsSettings}
+use Rattle.sig_opening.specs.declared.unopened.Unopened.{Unopened}
+use Rattle.sig_opening.specs.declared.unopened.Unopened.TheVariants as unopened
 use Rattle.sig_opening.specs.declared.unread.Unread.{Unread}
 use Rattle.sig_opening.specs.declared.unread.Unread.TheVariants as unread
 use Rattle.sig_receive.specs.Ends.{IsDamaged, state_of}
-use Rattle.sig_receive.specs.Fetching.{ByFetch, of_load, of_unread}
+use Rattle.sig_receive.specs.Fetching.{ByFetch, IsEndBefore, of_unopened, of_unread}
 use Rattle.sig_receive.specs.Peers.{FetchRefused, fetch_settings_of}
 use Rattle.sig_receive.specs.declared.ending.FetchEnd.{FetchEnd}
-use Rattle.sig_receive.specs.declared.ending.FetchEnd.TheVariants.{Done, SettingsFailed, Refused, StoreFailed, Damaged, NetworkFailed, Full, Peer as PeerEnd, Memory}
+use Rattle.sig_receive.specs.declared.ending.FetchEnd.TheVariants.{Done, SettingsFailed, Refused, NoStore, StoreFailed, Damaged, NetworkFailed, Full, Peer as PeerEnd, Memory}
 
 -- ---- where no settings were read
 
@@ -26,11 +26,12 @@ unread_refused unread.Failed told before now h member is = absurd cc
 unread_refused (unread.Refused named) told before now h member is = let same : named ≡ member = cc in subst (λ (m : List ℕ). FetchRefused told m) same h
 unread_refused unread.Memory told before now h member is = absurd cc
 
--- no store failed, none was damaged, and no round began
+-- no store was looked for, and no round began
 abbrev pub IsBefore : FetchEnd → Type 0
 IsBefore (Done fetched) = ⊥
 IsBefore SettingsFailed = Unit {0}
 IsBefore (Refused member) = Unit {0}
+IsBefore NoStore = ⊥
 IsBefore StoreFailed = ⊥
 IsBefore (Damaged file at) = ⊥
 IsBefore NetworkFailed = ⊥
@@ -56,24 +57,34 @@ unread_ends cause end none run is h = subst (λ (e : FetchEnd). ByFetch e none r
 
 -- ---- where no node was loaded
 
-pub load_failed : (fault : LoadFault) (a b : Option (List ℕ)) (before now : ℕ) → HaltsStore state_of fault a b before now → of_load fault ≡ StoreFailed → Rose before now
-load_failed load.Store a b before now h is = h
-load_failed (load.Damaged file at) a b before now h is = absurd cc
-load_failed load.Memory a b before now h is = absurd cc
+pub load_missing : (cause : Unopened) (lacks : Type 0) (a b : Option (List ℕ)) (before now : ℕ) → HaltsOpening state_of cause lacks a b before now → of_unopened cause ≡ NoStore → lacks
+load_missing unopened.Missing lacks a b before now h is = h
+load_missing unopened.Failed lacks a b before now h is = absurd cc
+load_missing (unopened.Damaged file at) lacks a b before now h is = absurd cc
+load_missing unopened.Memory lacks a b before now h is = absurd cc
 
-pub load_damaged : (fault : LoadFault) (a b : Option (List ℕ)) (before now : ℕ) → HaltsStore state_of fault a b before now → (file at : ℕ) → of_load fault ≡ Damaged file at → IsDamaged a b file at
-load_damaged load.Store a b before now h file at is = absurd cc
-load_damaged (load.Damaged file' at') a b before now h file at is =
+pub load_failed : (cause : Unopened) (lacks : Type 0) (a b : Option (List ℕ)) (before now : ℕ) → HaltsOpening state_of cause lacks a b before now → of_unopened cause ≡ StoreFailed → Rose before now
+load_failed unopened.Missing lacks a b before now h is = absurd cc
+load_failed unopened.Failed lacks a b before now h is = h
+load_failed (unopened.Damaged file at) lacks a b before now h is = absurd cc
+load_failed unopened.Memory lacks a b before now h is = absurd cc
+
+pub load_damaged : (cause : Unopened) (lacks : Type 0) (a b : Option (List ℕ)) (before now : ℕ) → HaltsOpening state_of cause lacks a b before now
+    → (file at : ℕ) → of_unopened cause ≡ Damaged file at → IsDamaged a b file at
+load_damaged unopened.Missing lacks a b before now h file at is = absurd cc
+load_damaged unopened.Failed lacks a b before now h file at is = absurd cc
+load_damaged (unopened.Damaged file' at') lacks a b before now h file at is =
     let files : file' ≡ file = cc in
     let ats : at' ≡ at = cc in
     subst (λ (n : ℕ). IsDamaged a b file n) ats (subst (λ (n : ℕ). IsDamaged a b n at') files h)
-load_damaged load.Memory a b before now h file at is = absurd cc
+load_damaged unopened.Memory lacks a b before now h file at is = absurd cc
 
 -- no settings failed, none were refused, and no round began
 abbrev pub IsOfStore : FetchEnd → Type 0
 IsOfStore (Done fetched) = ⊥
 IsOfStore SettingsFailed = ⊥
 IsOfStore (Refused member) = ⊥
+IsOfStore NoStore = Unit {0}
 IsOfStore StoreFailed = Unit {0}
 IsOfStore (Damaged file at) = Unit {0}
 IsOfStore NetworkFailed = ⊥
@@ -81,18 +92,38 @@ IsOfStore (Full n) = ⊥
 IsOfStore (PeerEnd place) = ⊥
 IsOfStore Memory = Unit {0}
 
-load_of_store : (fault : LoadFault) → IsOfStore (of_load fault)
-load_of_store load.Store = tt
-load_of_store (load.Damaged file at) = tt
-load_of_store load.Memory = tt
+load_of_store : (cause : Unopened) → IsOfStore (of_unopened cause)
+load_of_store unopened.Missing = tt
+load_of_store unopened.Failed = tt
+load_of_store (unopened.Damaged file at) = tt
+load_of_store unopened.Memory = tt
 
-pub load_other : (fault : LoadFault) (end : FetchEnd) → (IsOfStore end → ⊥) → of_load fault ≡ end → ⊥
-load_other fault end not is = not (subst IsOfStore is (load_of_store fault))
+pub load_other : (cause : Unopened) (end : FetchEnd) → (IsOfStore end → ⊥) → of_unopened cause ≡ end → ⊥
+load_other cause end not is = not (subst IsOfStore is (load_of_store cause))
 
-load_none : (fault : LoadFault) (none run : Type 0) → none → ByFetch (of_load fault) none run
-load_none load.Store none run h = inl h
-load_none (load.Damaged file at) none run h = h
-load_none load.Memory none run h = inl h
+load_none : (cause : Unopened) (none run : Type 0) → none → ByFetch (of_unopened cause) none run
+load_none unopened.Missing none run h = h
+load_none unopened.Failed none run h = inl h
+load_none (unopened.Damaged file at) none run h = h
+load_none unopened.Memory none run h = inl h
 
-pub load_ends : (fault : LoadFault) (end : FetchEnd) (none run : Type 0) → end ≡ of_load fault → none → ByFetch end none run
-load_ends fault end none run is h = subst (λ (e : FetchEnd). ByFetch e none run) (sym is) (load_none fault none run h)
+pub load_ends : (cause : Unopened) (end : FetchEnd) (none run : Type 0) → end ≡ of_unopened cause → none → ByFetch end none run
+load_ends cause end none run is h = subst (λ (e : FetchEnd). ByFetch e none run) (sym is) (load_none cause none run h)
+
+-- a fetch that came to no round, where no settings were read or no node was loaded
+unread_came : (cause : Unread) → IsEndBefore (of_unread cause)
+unread_came unread.Failed = tt
+unread_came (unread.Refused member) = tt
+unread_came unread.Memory = tt
+
+pub unread_early : (cause : Unread) (end : FetchEnd) → end ≡ of_unread cause → IsEndBefore end
+unread_early cause end is = subst IsEndBefore (sym is) (unread_came cause)
+
+load_came : (cause : Unopened) → IsEndBefore (of_unopened cause)
+load_came unopened.Missing = tt
+load_came unopened.Failed = tt
+load_came (unopened.Damaged file at) = tt
+load_came unopened.Memory = tt
+
+pub load_early : (cause : Unopened) (end : FetchEnd) → end ≡ of_unopened cause → IsEndBefore end
+load_early cause end is = subst IsEndBefore (sym is) (load_came cause)

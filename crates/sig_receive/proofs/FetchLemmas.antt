@@ -30,7 +30,7 @@ use Rattle.sig_receive.specs.Opening.{Opens}
 use Rattle.sig_receive.specs.Peers.{FetchSettings, SaysFetch}
 use Rattle.sig_receive.specs.Sides.{Beside, HasSide, NoFetch, Sides, beside, sides_of}
 use Rattle.sig_receive.specs.declared.ending.FetchEnd.{FetchEnd}
-use Rattle.sig_receive.specs.declared.ending.FetchEnd.TheVariants.{Done, SettingsFailed, Refused, StoreFailed, Damaged, NetworkFailed, Full, Peer as PeerEnd, Memory}
+use Rattle.sig_receive.specs.declared.ending.FetchEnd.TheVariants.{Done, SettingsFailed, Refused, NoStore, StoreFailed, Damaged, NetworkFailed, Full, Peer as PeerEnd, Memory}
 use Rattle.sig_receive.proofs.RoundLemmas.{beside_same, side_back, turns_come_to}
 
 -- ---- what rounds leave of a node
@@ -120,6 +120,7 @@ IsEndOfRounds (Done fetched) = Unit {0}
 IsEndOfRounds SettingsFailed = ⊥
 IsEndOfRounds (Refused member) = ⊥
 IsEndOfRounds StoreFailed = Unit {0}
+IsEndOfRounds NoStore = ⊥
 IsEndOfRounds (Damaged file at) = ⊥
 IsEndOfRounds NetworkFailed = Unit {0}
 IsEndOfRounds (Full n) = Unit {0}
@@ -165,6 +166,7 @@ fetch_end (Done fetched) none run kind h = h
 fetch_end SettingsFailed none run kind h = absurd kind
 fetch_end (Refused member) none run kind h = absurd kind
 fetch_end StoreFailed none run kind h = inr h
+fetch_end NoStore none run kind h = absurd kind
 fetch_end (Damaged file at) none run kind h = absurd kind
 fetch_end NetworkFailed none run kind h = h
 fetch_end (Full n) none run kind h = h
@@ -177,6 +179,7 @@ by_fetch SettingsFailed none run run' f h = h
 by_fetch (Refused member) none run run' f h = h
 by_fetch StoreFailed none run run' f (inl h) = inl h
 by_fetch StoreFailed none run run' f (inr h) = inr (f h)
+by_fetch NoStore none run run' f h = h
 by_fetch (Damaged file at) none run run' f h = h
 by_fetch NetworkFailed none run run' f h = f h
 by_fetch (Full n) none run run' f h = f h

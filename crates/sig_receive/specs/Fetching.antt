@@ -1,5 +1,5 @@
 -- What a run of `fetch` comes to, as the outside tells it.
-use Rattle.std.specs.Prelude.{◌≡◌, ◌≢◌, ◌⊎◌, ◌<◌, ℕ, List, [], All, Bool, true, false, length, IfOk, IsErrOf, Option, Result, Ok, Err}
+use Rattle.std.specs.Prelude.{◌≡◌, ◌≢◌, ◌⊎◌, ◌<◌, ℕ, List, [], All, Bool, true, false, length, IfOk, IsErrOf, Option, Some, Result, Ok, Err}
 use Rattle.sig_json.specs.Answers.{result_map}
 use Rattle.sig_json.specs.declared.limits.TheConstants.{LAST_NUMBER}
 use Rattle.sig_fetch.specs.Fetching as fetching
@@ -9,8 +9,6 @@ use Rattle.sig_fetch.specs.declared.fault.FetchFault.{FetchFault}
 use Rattle.sig_fetch.specs.declared.fault.FetchFault.TheVariants as fault
 use Rattle.sig_fetch.specs.declared.fetched.Fetched.{Fetched}
 use Rattle.sig_inbox.specs.Pairs.{has_pair}
-use Rattle.sig_journal.specs.declared.fault.LoadFault.{LoadFault}
-use Rattle.sig_journal.specs.declared.fault.LoadFault.TheVariants as load
 use Rattle.sig_receiver.specs.Receiver.{Received, received_of}
 use Rattle.sig_outside.specs.Causes.{Rose}
 use Rattle.sig_rxnode.specs.Node.{NodeView, files_told}
@@ -18,6 +16,8 @@ use Rattle.sig_rxnode.specs.Turns.{changes_of}
 use Rattle.sig_rxnode.specs.declared.rules.Peer.{Peer}
 use Rattle.sig_links.specs.Views.{SideView}
 use Rattle.sig_opening.specs.Files.{IfBoth}
+use Rattle.sig_opening.specs.declared.unopened.Unopened.{Unopened}
+use Rattle.sig_opening.specs.declared.unopened.Unopened.TheVariants as unopened
 use Rattle.sig_opening.specs.declared.unread.Unread.{Unread}
 use Rattle.sig_opening.specs.declared.unread.Unread.TheVariants as unread
 use Rattle.sig_receive.specs.Closing.{PutsBack}
@@ -25,7 +25,7 @@ use Rattle.sig_receive.specs.Ends.{StandsForState}
 use Rattle.sig_receive.specs.Peers.{FetchSettings, SaysFetch}
 use Rattle.sig_receive.specs.Sides.{Beside, HasSide, NoFetch, Sides}
 use Rattle.sig_receive.specs.declared.ending.FetchEnd.{FetchEnd}
-use Rattle.sig_receive.specs.declared.ending.FetchEnd.TheVariants.{Done, SettingsFailed, Refused, StoreFailed, Damaged, NetworkFailed, Full, Peer as PeerEnd, Memory}
+use Rattle.sig_receive.specs.declared.ending.FetchEnd.TheVariants.{Done, SettingsFailed, Refused, NoStore, StoreFailed, Damaged, NetworkFailed, Full, Peer as PeerEnd, Memory}
 
 -- ---- its ends
 
@@ -35,10 +35,11 @@ of_unread unread.Failed = SettingsFailed
 of_unread (unread.Refused member) = Refused member
 of_unread unread.Memory = Memory
 
-abbrev pub of_load : LoadFault → FetchEnd
-of_load load.Store = StoreFailed
-of_load (load.Damaged file at) = Damaged file at
-of_load load.Memory = Memory
+abbrev pub of_unopened : Unopened → FetchEnd
+of_unopened unopened.Missing = NoStore
+of_unopened unopened.Failed = StoreFailed
+of_unopened (unopened.Damaged file at) = Damaged file at
+of_unopened unopened.Memory = Memory
 
 -- the rounds ended so
 abbrev pub EndsFetch : Result Fetched FetchFault → FetchEnd → Type 0
@@ -67,12 +68,30 @@ abbrev pub ByFetch : FetchEnd → Type 0 → Type 0 → Type 0
 ByFetch (Done fetched) none run = run
 ByFetch SettingsFailed none run = none
 ByFetch (Refused member) none run = none
+ByFetch NoStore none run = none
 ByFetch StoreFailed none run = none ⊎ run
 ByFetch (Damaged file at) none run = none
 ByFetch NetworkFailed none run = run
 ByFetch (Full n) none run = run
 ByFetch (PeerEnd place) none run = run
 ByFetch Memory none run = none ⊎ run
+
+-- a fetch that came to no round can end so
+abbrev pub IsEndBefore : FetchEnd → Type 0
+IsEndBefore (Done fetched) = ⊥
+IsEndBefore SettingsFailed = Unit {0}
+IsEndBefore (Refused member) = Unit {0}
+IsEndBefore NoStore = Unit {0}
+IsEndBefore StoreFailed = Unit {0}
+IsEndBefore (Damaged file at) = Unit {0}
+IsEndBefore NetworkFailed = ⊥
+IsEndBefore (Full n) = ⊥
+IsEndBefore (PeerEnd place) = ⊥
+IsEndBefore Memory = Unit {0}
+
+-- where a file of the store isn't there, no round began, and the fetch ends as one that came to none
+abbrev pub UnlessThere : Option Bool → Option Bool → FetchEnd → Beside → Beside → Type 0
+UnlessThere a b end old new = ((a ≡ Some false) ⊎ (b ≡ Some false)) → IsEndBefore end × NoFetch old new
 
 -- ---- the run
 

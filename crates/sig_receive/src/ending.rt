@@ -1,10 +1,9 @@
 ghost use Rattle.std.specs.Prelude.{◌≡◌, ◌≢◌, Err};
-ghost use Rattle.sig_receive.specs.Fetching.{EndsFetch, of_load, of_unread};
+ghost use Rattle.sig_receive.specs.Fetching.{EndsFetch, of_unopened, of_unread};
 
 use sig_fetch::{FetchFault, Fetched};
-use sig_journal::LoadFault;
 use sig_json::Text;
-use sig_opening::Unread;
+use sig_opening::{Unopened, Unread};
 
 /// How a fetch ended.
 #[derive(Drop)]
@@ -16,6 +15,8 @@ pub enum FetchEnd {
     /// What is at this path of the settings is missing or wrong; it is `length` where there are too many bytes, `body` where
     /// they spell no JSON object, and `poll` also where they name no transmitter. No file of the store was opened.
     Refused(Text),
+    /// A file of the store isn't there. None was made, and nothing was dialled.
+    NoStore,
     /// A file of the store couldn't be opened, or its disk failed. The outside counted it as a fault of the stores.
     StoreFailed,
     /// The bytes of a file of the store, 0 for the first and 1 for the second, are no journal at this offset, or the record
@@ -44,14 +45,15 @@ impl FetchEnd {
         }
     }
 
-    /// The end where no node was loaded, for this fault.
-    pub fn of_load(fault: LoadFault) -> FetchEnd
-        ensures { result ≡ of_load fault }
+    /// The end where no node was loaded, for this cause.
+    pub fn of_unopened(cause: Unopened) -> FetchEnd
+        ensures { result ≡ of_unopened cause }
     {
-        match fault {
-            LoadFault::Store => FetchEnd::StoreFailed,
-            LoadFault::Damaged { file, at } => FetchEnd::Damaged { file, at },
-            LoadFault::Memory => FetchEnd::Memory,
+        match cause {
+            Unopened::Missing => FetchEnd::NoStore,
+            Unopened::Failed => FetchEnd::StoreFailed,
+            Unopened::Damaged { file, at } => FetchEnd::Damaged { file, at },
+            Unopened::Memory => FetchEnd::Memory,
         }
     }
 

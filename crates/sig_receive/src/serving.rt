@@ -4,7 +4,8 @@ ghost use Rattle.std.specs.Prelude.{◌≡◌, ◌≢◌, ℕ, List, None};
 ghost use Rattle.sig_init.specs.Files.{KeepsBut, StaysTold, file_a, file_b};
 ghost use Rattle.sig_opening.specs.Door.{doors_of};
 ghost use Rattle.sig_opening.specs.Ends.{BreaksAfter};
-ghost use Rattle.sig_opening.specs.Serving.{around};
+ghost use Rattle.sig_opening.specs.Files.{LackOne};
+ghost use Rattle.sig_opening.specs.Serving.{UnlessThere, around};
 ghost use Rattle.sig_opening.specs.Stays.{KeepsOtherSettings};
 ghost use Rattle.sig_outside.specs.Causes.{Rose};
 ghost use Rattle.sig_receive.specs.Door.{ServesAt};
@@ -29,7 +30,7 @@ use std::thread::Threads;
 /// listening place, and runs so many watches, or fewer where a watch reports that the door is shut, where the door or the
 /// store fails, or where memory runs out. It may wait for the door and the links.
 ///
-/// The settings are read first, then the store is opened, then the door; what was opened is given back before the end, the
+/// The settings are read first, then the store is opened, whose files have to be there, then the door; what was opened is given back before the end, the
 /// settings as soon as they are read.
 pub fn receive<R: Threads + Wait + Sync, X: Outside>(
     alloc: Global,
@@ -42,12 +43,19 @@ pub fn receive<R: Threads + Wait + Sync, X: Outside>(
     // The causes of the ends.
     ensures settings_failed { result ≡ ServeEnd.SettingsFailed → Rose (X.settings_faults outside.old) (X.settings_faults outside.new) }
     ensures refused { (member : List ℕ) → result ≡ ServeEnd.Refused member → AreRefused (X.settings_of outside.old settings.now) member }
+    ensures no_store { result ≡ ServeEnd.NoStore → LackOne (X.there outside.old (file_a store.now)) (X.there outside.old (file_b store.now)) }
     ensures store_failed { result ≡ ServeEnd.StoreFailed → Rose (X.store_faults outside.old) (X.store_faults outside.new) }
     ensures damaged { (file at : ℕ) → result ≡ ServeEnd.Damaged file at → IsDamaged (X.held outside.old (file_a store.now)) (X.held outside.old (file_b store.now)) file at }
     ensures network_failed { result ≡ ServeEnd.NetworkFailed → Rose (X.network_faults outside.old) (X.network_faults outside.new) }
 
     // The watches, from the store that was opened to the one that is put back.
     ensures serves { ServesBy (X.settings_of outside.old settings.now) result watches
+        (around X.held X.doors X.doors_back (file_a store.now) (file_b store.now) outside.old)
+        (around X.held X.doors X.doors_back (file_a store.now) (file_b store.now) outside.new) }
+
+    // No file is made. Where one of the store isn't there, no watch begins.
+    ensures there { X.there outside.new ≡ X.there outside.old }
+    ensures missing { UnlessThere (X.there outside.old (file_a store.now)) (X.there outside.old (file_b store.now)) result
         (around X.held X.doors X.doors_back (file_a store.now) (file_b store.now) outside.old)
         (around X.held X.doors X.doors_back (file_a store.now) (file_b store.now) outside.new) }
 
@@ -79,10 +87,15 @@ fn serve_store<R: Threads + Wait + Sync, X: Outside>(
     requires apart { names.now.a ≢ names.now.b }
     ensures settings_failed { result ≢ ServeEnd.SettingsFailed }
     ensures refused { (member : List ℕ) → result ≢ ServeEnd.Refused member }
+    ensures no_store { result ≡ ServeEnd.NoStore → LackOne (X.there outside.old names.now.a) (X.there outside.old names.now.b) }
     ensures store_failed { result ≡ ServeEnd.StoreFailed → Rose (X.store_faults outside.old) (X.store_faults outside.new) }
     ensures damaged { (file at : ℕ) → result ≡ ServeEnd.Damaged file at → IsDamaged (X.held outside.old names.now.a) (X.held outside.old names.now.b) file at }
     ensures network_failed { result ≡ ServeEnd.NetworkFailed → Rose (X.network_faults outside.old) (X.network_faults outside.new) }
     ensures serves { Serves said result watches
+        (around X.held X.doors X.doors_back names.now.a names.now.b outside.old)
+        (around X.held X.doors X.doors_back names.now.a names.now.b outside.new) }
+    ensures there { X.there outside.new ≡ X.there outside.old }
+    ensures missing { UnlessThere (X.there outside.old names.now.a) (X.there outside.old names.now.b) result
         (around X.held X.doors X.doors_back names.now.a names.now.b outside.old)
         (around X.held X.doors X.doors_back names.now.a names.now.b outside.new) }
     ensures back { StaysTold (X.held outside.old) (X.held outside.new) names.now.a × StaysTold (X.held outside.old) (X.held outside.new) names.now.b }
@@ -97,7 +110,7 @@ fn serve_store<R: Threads + Wait + Sync, X: Outside>(
             give_back::<Receiver<X::D>, X>(node, names, outside);
             end
         }
-        Err(fault) => ServeEnd::of_load(fault),
+        Err(cause) => ServeEnd::of_unopened(cause),
     }
 }
 
@@ -114,7 +127,7 @@ fn serve_at<R: Threads + Wait + Sync, X: Outside>(
     ensures serves { ServesAt X.D.told place.now result.end watches (doors_of (X.doors outside.old) (X.doors_back outside.old)) (doors_of (X.doors outside.new) (X.doors_back outside.new)) node result.node }
     ensures breaks { BreaksAfter result.end result.node.kept.store.broken_at }
     ensures network { result.end ≡ ServeEnd.NetworkFailed → Rose (X.network_faults outside.old) (X.network_faults outside.new) }
-    ensures stores { (X.held outside.new ≡ X.held outside.old) × (X.lent outside.new ≡ X.lent outside.old) × (X.store_faults outside.new ≡ X.store_faults outside.old) }
+    ensures stores { (X.held outside.new ≡ X.held outside.old) × (X.lent outside.new ≡ X.lent outside.old) × (X.store_faults outside.new ≡ X.store_faults outside.old) × (X.there outside.new ≡ X.there outside.old) }
     ensures settings { X.settings_of outside.new ≡ X.settings_of outside.old }
     ensures sides { (X.sides outside.new ≡ X.sides outside.old) × (X.sides_out outside.new ≡ X.sides_out outside.old) × (X.sides_back outside.new ≡ X.sides_back outside.old) }
 {

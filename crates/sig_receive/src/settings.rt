@@ -22,7 +22,7 @@ pub fn settings_from<X: Outside>(
     ensures reached { IfOk result (λ said. IfSome said.rules.peer HasItsGateway) }
     ensures halts { IfErr result (λ cause. HaltsSettings rx_settings_of cause (X.settings_of outside.old name.now) (X.settings_faults outside.old) (X.settings_faults outside.new)) }
     ensures others { KeepsOtherSettings name.now (X.settings_of outside.old) (X.settings_of outside.new) }
-    ensures stores { (X.held outside.new ≡ X.held outside.old) × (X.lent outside.new ≡ X.lent outside.old) × (X.store_faults outside.new ≡ X.store_faults outside.old) }
+    ensures stores { (X.held outside.new ≡ X.held outside.old) × (X.lent outside.new ≡ X.lent outside.old) × (X.store_faults outside.new ≡ X.store_faults outside.old) × (X.there outside.new ≡ X.there outside.old) }
     ensures doors { (X.doors outside.new ≡ X.doors outside.old) × (X.doors_out outside.new ≡ X.doors_out outside.old) × (X.doors_back outside.new ≡ X.doors_back outside.old) }
     ensures sides { (X.sides outside.new ≡ X.sides outside.old) × (X.sides_out outside.new ≡ X.sides_out outside.old) × (X.sides_back outside.new ≡ X.sides_back outside.old) }
     ensures network { X.network_faults outside.new ≡ X.network_faults outside.old }

@@ -7,7 +7,7 @@ use Rattle.sig_push.specs.declared.fault.PushFault.{PushFault}
 use Rattle.sig_terms.specs.declared.rules.Rules.{Rules}
 use Rattle.sig_txnode.specs.Told.{TakerTold}
 use Rattle.sig_txnode.specs.declared.turn.Turn.{Turn}
-use Rattle.sig_round.specs.Rounds.{AllRounded, AreRounds, Attempted, IsRound, NextUnless, is_starved}
+use Rattle.sig_round.specs.Rounds.{AllRounded, AreRounds, Attempted, IsRound, NextUnless, Rounded, is_starved}
 use Rattle.sig_round.specs.Turns.{Asker}
 use Rattle.sig_round.proofs.Grown.{adds_none, adds_on}
 
@@ -105,3 +105,12 @@ pub last_round : (rules : Rules) (by : Asker) (streams : List (List ℕ)) (i : �
     → length streams ≤ i → RoundsGoOn rules by streams (drop i streams) before now x y k l → AllRounded rules by streams before now x y k l false
 last_round rules by streams i before now x y k l h g =
     g.whole now y l false (subst (λ (rest : List (List ℕ)). AllRounded rules by rest now now y y l l false) (sym (drop_all i streams h)) (rounded_none rules by now y l))
+
+-- a round of one stream, before which the side was told that it begins
+pub attempted_from : (rules : Rules) (by : Asker) (s : List ℕ) (a between b : SideView) (x y : List Turn) (k l : Option TakerTold) (one : Result ⊤ PushFault) (starved : Bool) → between ≡ a
+    → Rounded rules by s between b x y k l one → starved ≡ is_starved one → Attempted rules by s a b x y k l starved
+attempted_from rules by s a between b x y k l one starved same rounded outcome = record {
+  one = one;
+  rounded = subst (λ (v : SideView). Rounded rules by s v b x y k l one) same rounded;
+  outcome = outcome;
+}

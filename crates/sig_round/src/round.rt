@@ -20,6 +20,9 @@ use std::sync::Wait;
 /// Rounds of pushes of these streams, one after another: each has a round of its own, and where a push of it has no answer that
 /// round ends, and the next stream's follows.
 ///
+/// The side has a bound in time for each of them: a push that would come later has no answer, and so its stream's round ends. What
+/// is left of the stream stays owed.
+///
 /// `Memory` says that memory ran out, in a push or in a turn; then the streams that are left have no round.
 pub fn push_rounds<R: Wait, K: Taker, S: Side>(
     alloc: Global,
@@ -41,7 +44,7 @@ pub fn push_rounds<R: Wait, K: Taker, S: Side>(
     Ok(())
 }
 
-// The round of one stream. Only memory that runs out is more than its own end.
+// The round of one stream, for which the side has a bound in time. Only memory that runs out is more than its own end.
 fn push_round<R: Wait, K: Taker, S: Side>(
     alloc: Global,
     rt: &R,
@@ -56,6 +59,7 @@ fn push_round<R: Wait, K: Taker, S: Side>(
     ensures link { log.new.link ≡ log.old.link }
     ensures now { log.new.now ≡ log.old.now }
 {
+    side.begin_round();
     let end = push_offered(alloc, rt, taker, rules, stream, side, log);
     outcome_of(end)
 }

@@ -13,16 +13,18 @@ use sig_journal::Store;
 use sig_json::limits::ROWS_PER_PAGE;
 use sig_json::{Bytes, Text};
 use sig_outside::Disk;
+use sig_past::Past;
 use sig_receiver::{Heard, Hearing, Ready, Receiver};
 use sig_sessions::Table;
 use sig_set::PreparedTrust;
 use std::alloc::Global;
 
-/// A receiver whose tokens stand in the journal of a store, and the texts of these tokens.
+/// A receiver whose tokens stand in the journal of a store, and the texts of these tokens, which contracts see. When the
+/// program runs, the journal alone has them.
 pub struct Journalled<D: Disk> {
     pub alloc: Global,
     pub receiver: Receiver,
-    pub entries: Vec<Bytes>,
+    pub entries: Past<Bytes>,
     pub store: Store<D>,
 }
 
@@ -151,7 +153,7 @@ impl<D: Disk> Journalled<D> {
         match self.store.append(&framed, turn) {
             Ok(()) => {
                 self.receiver.commit(ready);
-                self.entries.push_reserved(entry);
+                self.entries.put(&entry);
                 Ok(())
             }
             Err(fault) => {

@@ -22,6 +22,7 @@ use crate::recording::{RecordFault, take_record};
 use sig_journal::{Kind, LoadFault, LoadRefused, Loaded, Store};
 use sig_json::Bytes;
 use sig_outside::Disk;
+use sig_past::Past;
 use sig_receiver::Receiver;
 use std::alloc::Global;
 
@@ -29,7 +30,7 @@ use std::alloc::Global;
 #[derive(Drop)]
 pub struct Taken {
     pub receiver: Receiver,
-    pub entries: Vec<Bytes>,
+    pub entries: Past<Bytes>,
 }
 
 /// Takes up the records of a file one by one, with the places of their gates. `Damaged` comes exactly at the gate of the
@@ -46,7 +47,7 @@ fn take_records(
     ensures entries { IfOk result (λ t. (t.entries.items ≡ texts_of records.now) × (received t.receiver ≡ received_of nothing t.entries.items)) }
 {
     let mut receiver = Receiver::new(alloc);
-    let mut entries = Vec::new(alloc);
+    let mut entries = Past::new(alloc);
     for (i, payload) in records.iter().enumerate() {
         match take_record(alloc, &mut receiver, &mut entries, payload.as_slice()) {
             Ok(()) => {}

@@ -15,7 +15,7 @@ use crate::journalled::{Journalled, Told};
 use crate::loading::load;
 use crate::{RxAnswer, RxCall, RxFault, RxRules, RxState, RxTurn};
 use sig_journal::{LoadFault, LoadRefused};
-use sig_json::{Bytes, Memory};
+use sig_json::Memory;
 use sig_outside::Disk;
 use sig_set::PreparedTrust;
 use std::alloc::Global;
@@ -159,11 +159,11 @@ impl<D: Disk> RxNode<D> {
         self.turns.as_slice()
     }
 
-    /// The texts of the tokens in the journal, in order.
-    pub fn entries(&self) -> &[Bytes]
-        ensures { result.now ≡ self.now.kept.entries }
+    /// How many tokens stand in the journal. It takes no memory.
+    pub fn tokens(&self) -> usize
+        ensures { result ≡ length self.now.kept.entries }
     {
-        self.kept.entries.as_slice()
+        self.kept.entries.len()
     }
 
     /// Both files, the first and the second. They stand for what is kept as the node's store did, and where the node is broken,

@@ -1,6 +1,6 @@
 //! The records of a receiver's journal: how one is made ready, and how one is taken up.
 
-ghost use Rattle.std.specs.Prelude.{◌≡◌, ◌<◌, ◌^◌, ◌++◌, ◌∷◌, [], length, vec_len, vec_capacity, IfOk, IsErrOf, None, OnOk, Some};
+ghost use Rattle.std.specs.Prelude.{◌≡◌, ◌<◌, ◌^◌, ◌++◌, ◌∷◌, [], length, IfOk, IsErrOf, None, OnOk, Some};
 ghost use Rattle.sig_entry.specs.Tokens.{token_spelling};
 ghost use Rattle.sig_receiver.specs.Receiver.{received};
 ghost use Rattle.sig_json.specs.Answers.{Answers};
@@ -10,10 +10,11 @@ use sig_entry::{decode_token, encode_token};
 use sig_fields::DecodeFault;
 use sig_journal::{Framed, frame};
 use sig_json::{Bytes, Memory, MemoryRefusal};
+use sig_past::Past;
 use sig_receiver::{Receiver, TakeFault};
 use std::alloc::Global;
 
-/// A token text that is to be journalled: its record as it is written, and a copy that is kept.
+/// A token text that is to be journalled: its record as it is written, and a copy.
 #[derive(Drop)]
 pub struct Recorded {
     pub framed: Framed,
@@ -21,16 +22,16 @@ pub struct Recorded {
 }
 
 /// Frames the record of a token text, copies the text, and makes room for it among the entries.
-pub fn record_of(alloc: Global, entries: &mut Vec<Bytes>, text: &[u8]) -> Result<Recorded, Memory>
+pub fn record_of(alloc: Global, entries: &mut Past<Bytes>, text: &[u8]) -> Result<Recorded, Memory>
     requires { length text.now < 2 ^ 31 }
     ensures made { IfOk result (λ r. (r.framed ≡ token_spelling text.now) × (r.entry ≡ text.now)) }
     ensures same { entries.new.items ≡ entries.old.items }
-    ensures room { OnOk result (vec_len entries.new < vec_capacity entries.new) }
+    ensures room { OnOk result (length entries.new.items < entries.new.room) }
 {
     let payload = encode_token(alloc, text)?;
     let framed = frame(alloc, payload.as_slice())?;
     let entry = Bytes::of(alloc, text)?;
-    entries.reserve(1)?;
+    entries.reserve()?;
     Ok(Recorded { framed, entry })
 }
 
@@ -64,12 +65,12 @@ fn text_of(alloc: Global, payload: &[u8]) -> Result<Bytes, RecordFault>
     }
 }
 
-/// Takes up the record of a store that is loaded, and keeps its text. `Bad` comes exactly where it spells no token that
+/// Takes up the record of a store that is loaded, and puts its text last. `Bad` comes exactly where it spells no token that
 /// says claims.
 pub fn take_record(
     alloc: Global,
     receiver: &mut Receiver,
-    entries: &mut Vec<Bytes>,
+    entries: &mut Past<Bytes>,
     payload: &[u8],
 ) -> Result<(), RecordFault>
     ensures taken { OnOk result (receiving.step (received receiver.old) payload.now ≡ Some (received receiver.new)) }
@@ -82,6 +83,7 @@ pub fn take_record(
         Err(TakeFault::Bad(_)) => return Err(RecordFault::Bad),
         Err(TakeFault::Memory) => return Err(RecordFault::Memory),
     }
-    entries.push(text)?;
+    entries.reserve()?;
+    entries.put(&text);
     Ok(())
 }

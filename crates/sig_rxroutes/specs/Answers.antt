@@ -1,7 +1,8 @@
--- The responses to the answers of a receiver, each of one status (RFC 8935, sections 2.2 and 2.3; RFC 9110, section 15).
-use Rattle.std.specs.Prelude.{[], ◌∷◌, false, codes}
+-- The responses to the answers of a receiver, each of one status (RFC 8935, sections 2.2 and 2.3; RFC 9110, section 15). No cache
+-- may keep one (RFC 9111, section 5.2.2.5).
 use Rattle.serde_json.specs.Data.{Data}
 use Rattle.serde_json.specs.Written.{compact_text}
+use Rattle.sig_http.specs.Answering.{empty, json}
 use Rattle.sig_http.specs.declared.message.Response.{Response}
 use Rattle.sig_delivery.specs.Pushes.{coded_of}
 use Rattle.sig_rxnode.specs.declared.answer.RxAnswer.{RxAnswer}
@@ -10,16 +11,11 @@ use Rattle.sig_rxroutes.specs.Documents.{rows_data, verdict_data}
 
 -- the response to a token that is valid (RFC 8935, section 2.2): it has no body
 abbrev pub acknowledging : Response
-acknowledging = record { status = 202; headers = []; close = false; body = [] }
+acknowledging = empty 202
 
 -- the response that tells a value
 abbrev pub telling : Data → Response
-telling d = record {
-  status = 200;
-  headers = (record { name = codes "content-type"; value = codes "application/json" }) ∷ [];
-  close = false;
-  body = compact_text d;
-}
+telling d = json 200 (compact_text d)
 
 -- the table; a token that was taken before is acknowledged again
 abbrev pub reply : RxAnswer → Response

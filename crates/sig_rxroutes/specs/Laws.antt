@@ -1,6 +1,7 @@
 -- Laws over what requests ask and what responses tell.
-use Rattle.std.specs.Prelude.{◌≡◌, ◌≤◌, ◌↔◌, ℕ, List, Contains, false, Option, Some, None, IfSome, Ok, codes, ⊤}
+use Rattle.std.specs.Prelude.{◌≡◌, ◌≤◌, ◌↔◌, ℕ, List, Contains, true, false, Option, Some, None, IfSome, Ok, codes, ⊤}
 use Rattle.sig_json.specs.declared.limits.TheConstants.{LAST_NUMBER}
+use Rattle.sig_http.specs.Answering.{says_no_store}
 use Rattle.sig_http.specs.Written.{response_read}
 use Rattle.sig_http.specs.declared.message.Request.{Request}
 use Rattle.sig_subject.specs.Written.{IsProperSubject}
@@ -82,6 +83,10 @@ RequestsMakeProperCalls = (request : Request) (rules : RxRules) (asked : RxCall)
 
 abbrev pub LeavesLinksOpen : Type 0
 LeavesLinksOpen = (answer : RxAnswer) → (reply answer).close ≡ false
+
+-- no cache may keep one (RFC 9111, section 5.2.2.5)
+abbrev pub NoCacheKeeps : Type 0
+NoCacheKeeps = (answer : RxAnswer) → says_no_store (reply answer) ≡ true
 
 -- what a response settles at the transmitter that pushed: a valid token is taken, new or not, and a refused one settled by its code
 pub record SettlesPushes : Type 0 where

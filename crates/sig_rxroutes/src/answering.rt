@@ -8,34 +8,23 @@ ghost use Rattle.sig_rxroutes.specs.Documents as documents;
 
 use crate::document::{rows_value, verdict_value};
 use sig_delivery::coded;
-use sig_http::{Header, Response};
-use sig_json::{Bytes, Items, Memory, Text, Value, canon};
+use sig_http::{Response, empty, json};
+use sig_json::{Bytes, Memory, Value, canon};
 use sig_rxnode::RxAnswer;
 use sig_sessions::{Row, Verdict};
 use std::alloc::Global;
 
 /// The response to an answer, which has one status: 202 without a body for a token that is valid, whether it is new or
 /// was taken before (RFC 8935, section 2.2), 400 with its code for one that is refused (section 2.3), and 200 for what is
-/// told of the session table. It leaves the link open. Out of memory is the only error.
+/// told of the session table. It leaves the link open, and no cache may keep it. Out of memory is the only error.
 pub fn response_of(alloc: Global, answer: &RxAnswer) -> Result<Response, Memory>
     ensures { IfOk result (λ response. response ≡ spec.reply answer.now) }
 {
     match answer {
-        RxAnswer::Accepted | RxAnswer::Seen => Ok(acknowledging(alloc)),
+        RxAnswer::Accepted | RxAnswer::Seen => empty(alloc, 202),
         RxAnswer::Refused { code, spot } => coded(alloc, code, spot),
         RxAnswer::Verdict(verdict) => judged(alloc, verdict),
         RxAnswer::Rows(rows) => listed(alloc, rows.as_slice()),
-    }
-}
-
-fn acknowledging(alloc: Global) -> Response
-    ensures { result ≡ spec.acknowledging }
-{
-    Response {
-        status: 202,
-        headers: Items::of(Vec::new(alloc)),
-        close: false,
-        body: Bytes::new(alloc),
     }
 }
 
@@ -63,15 +52,5 @@ fn telling(alloc: Global, value: &Value) -> Result<Response, Memory>
 {
     let text = canon(alloc, value)?;
     let body = Bytes::of(alloc, text.as_str().as_bytes())?;
-    let mut headers = Vec::new(alloc);
-    headers.push(Header {
-        name: Text::of(alloc, "content-type")?,
-        value: Text::of(alloc, "application/json")?,
-    })?;
-    Ok(Response {
-        status: 200,
-        headers: Items::of(headers),
-        close: false,
-        body,
-    })
+    json(alloc, 200, body)
 }

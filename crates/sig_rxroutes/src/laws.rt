@@ -1,6 +1,6 @@
 //! Laws over definitions: each is the contract of a function that does nothing.
 
-ghost use Rattle.sig_rxroutes.specs.Laws.{BearersDecide, LeavesLinksOpen, PrincipalsSpeakForThemselves, PushesAreRead, RequestsMakeProperCalls, RoutesExactly, SettlesPushes};
+ghost use Rattle.sig_rxroutes.specs.Laws.{BearersDecide, LeavesLinksOpen, NoCacheKeeps, PrincipalsSpeakForThemselves, PushesAreRead, RequestsMakeProperCalls, RoutesExactly, SettlesPushes};
 
 /// A request makes a call exactly where it is for a route, whose bearer, query and body it has.
 pub fn routes_are_exact()
@@ -39,4 +39,9 @@ pub fn responses_leave_links_open()
 /// or was taken before, and one that is refused by its code (RFC 8935, sections 2.2 to 2.4).
 pub fn responses_settle_pushes()
     ensures { SettlesPushes }
+{}
+
+/// No cache may keep a response (RFC 9111, section 5.2.2.5).
+pub fn no_cache_keeps_an_answer()
+    ensures { NoCacheKeeps }
 {}

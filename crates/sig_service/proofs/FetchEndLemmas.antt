@@ -4,18 +4,19 @@ use Rattle.sig_command.specs.Moment.{OutputState}
 use Rattle.sig_receive.specs.Ends as rx
 use Rattle.sig_receive.specs.Peers.{fetch_settings_of}
 use Rattle.sig_receive.specs.declared.ending.FetchEnd.{FetchEnd}
-use Rattle.sig_receive.specs.declared.ending.FetchEnd.TheVariants.{Done, SettingsFailed, Refused, StoreFailed, Damaged, NetworkFailed, Full, Peer, Memory}
+use Rattle.sig_receive.specs.declared.ending.FetchEnd.TheVariants.{Done, SettingsFailed, Refused, NoStore, StoreFailed, Damaged, NetworkFailed, Full, Peer, Memory}
 use Rattle.sig_service.specs.Asking.{StoreAsked}
 use Rattle.sig_service.specs.FetchRuns.{EndsCalm, FetchRan, FetchedSo, IsFetchable, last_line, status_of}
 use Rattle.sig_service.specs.LastLine.{PutLast}
 use Rattle.sig_service.specs.Outside.{MeetsNoFault, OutsideState}
-use Rattle.sig_service.proofs.ServerEndLemmas.{put_whole, stands_damaged, taken_refused}
+use Rattle.sig_service.proofs.ServerEndLemmas.{lacks_none, put_whole, stands_damaged, taken_refused}
 
 -- the status 1 is for words that are no command
 no_usage : (e : FetchEnd) → status_of e ≡ 1 → ⊥
 no_usage (Done fetched) h = omega (arith, h)
 no_usage SettingsFailed h = omega (arith, h)
 no_usage (Refused member) h = omega (arith, h)
+no_usage NoStore h = omega (arith, h)
 no_usage StoreFailed h = omega (arith, h)
 no_usage (Damaged file at) h = omega (arith, h)
 no_usage NetworkFailed h = omega (arith, h)
@@ -33,6 +34,7 @@ fetched_end : (ask : StoreAsked) (before now : OutsideState) (a b : OutputState)
 fetched_end ask before now a b (Done fetched) ready calm so = inl refl
 fetched_end ask before now a b SettingsFailed ready calm so = absurd (calm.settings (so.settings_failed refl))
 fetched_end ask before now a b (Refused member) ready calm so = absurd (taken_refused fetch_settings_of rx.state_of ask before member ready (so.refused member refl))
+fetched_end ask before now a b NoStore ready calm so = absurd (lacks_none _ _ ready.there.0 ready.there.1 (so.no_store refl))
 fetched_end ask before now a b StoreFailed ready calm so = absurd (calm.stores (so.store_failed refl))
 fetched_end ask before now a b (Damaged file at) ready calm so = absurd (stands_damaged fetch_settings_of rx.state_of ask before file at ready (so.damaged file at refl))
 fetched_end ask before now a b NetworkFailed ready calm so = absurd (calm.network (so.network_failed refl))

@@ -1,5 +1,5 @@
 -- How runs of `serve`, `receive` and `init` end.
-use Rattle.std.proofs.Common.{◌≡◌, ◌⊎◌, ◌∙◌, sym, subst, refl, ℕ, List, [], Option, Some, None, Result, Ok, Err, inl, inr, arith}
+use Rattle.std.proofs.Common.{◌≡◌, ◌⊎◌, ◌∙◌, sym, subst, refl, ℕ, Bool, true, true≢false, List, [], Option, Some, None, Result, Ok, Err, inl, inr, arith}
 use Rattle.sig_outside.specs.Causes.{Rose}
 use Rattle.sig_outside.proofs.CauseLemmas.{raised_rose}
 use Rattle.sig_command.specs.Moment.{OutputState}
@@ -12,7 +12,7 @@ use Rattle.sig_journal.specs.declared.fault.LoadFault.{LoadFault}
 use Rattle.sig_settings.specs.declared.fault.SettingsFault.{SettingsFault}
 use Rattle.sig_txsettings.specs.Settings.{tx_settings_of}
 use Rattle.sig_rxsettings.specs.Settings.{rx_settings_of}
-use Rattle.sig_opening.specs.Files.{IsDamaged}
+use Rattle.sig_opening.specs.Files.{IsDamaged, IsMissing, LackOne}
 use Rattle.sig_opening.specs.Serving.{Around}
 use Rattle.sig_opening.specs.Settings.{AreRefused}
 use Rattle.sig_serve.specs.Ends as tx
@@ -20,7 +20,7 @@ use Rattle.sig_serve.specs.Serving as tx_serving
 use Rattle.sig_receive.specs.Ends as rx
 use Rattle.sig_receive.specs.Serving as rx_serving
 use Rattle.sig_opening.specs.declared.ending.ServeEnd.{ServeEnd}
-use Rattle.sig_opening.specs.declared.ending.ServeEnd.TheVariants.{Done, SettingsFailed, Refused, StoreFailed, Damaged, NetworkFailed, Disagree, Memory}
+use Rattle.sig_opening.specs.declared.ending.ServeEnd.TheVariants.{Done, SettingsFailed, Refused, NoStore, StoreFailed, Damaged, NetworkFailed, Disagree, Memory}
 use Rattle.sig_service.specs.Asking.{Asked, ServerAsked, StoreAsked}
 use Rattle.sig_service.specs.InitRuns as init_runs
 use Rattle.sig_service.specs.LastLine.{PutLast}
@@ -38,6 +38,7 @@ no_usage : (e : ServeEnd) → status_of e ≡ 1 → ⊥
 no_usage Done h = omega (arith, h)
 no_usage SettingsFailed h = omega (arith, h)
 no_usage (Refused member) h = omega (arith, h)
+no_usage NoStore h = omega (arith, h)
 no_usage StoreFailed h = omega (arith, h)
 no_usage (Damaged file at) h = omega (arith, h)
 no_usage NetworkFailed h = omega (arith, h)
@@ -70,6 +71,11 @@ stands_damaged reads means ask now file at ready h =
     let both : IsDamaged means (Some ready.a) (Some ready.b) file at = subst (λ (o : Option (List ℕ)). IsDamaged means (Some ready.a) o file at) ready.b_told first in
     ok_err ready.state _ (means ready.a ready.b) ready.stands both
 
+-- a store whose files are there lacks none
+pub lacks_none : (a b : Option Bool) → a ≡ Some true → b ≡ Some true → LackOne a b → ⊥
+lacks_none a b a_there b_there (inl missing) = true≢false (subst IsMissing a_there missing)
+lacks_none a b a_there b_there (inr missing) = true≢false (subst IsMissing b_there missing)
+
 -- a serving that meets no fault ends with 0, 8 or 9
 ended : {T S : Type 0} (reads : List ℕ → Result T SettingsFault) (means : List ℕ → List ℕ → Result S LoadFault) (ask : StoreAsked) (before now : OutsideState) (a b : OutputState) (e : ServeEnd) (serves : Type 0)
     → IsReady reads means ask before → MeetsNoFault before now a b
@@ -78,6 +84,7 @@ ended : {T S : Type 0} (reads : List ℕ → Result T SettingsFault) (means : Li
 ended reads means ask before now a b Done serves ready calm so = inl refl
 ended reads means ask before now a b SettingsFailed serves ready calm so = absurd (calm.settings (so.settings_failed refl))
 ended reads means ask before now a b (Refused member) serves ready calm so = absurd (taken_refused reads means ask before member ready (so.refused_at member refl))
+ended reads means ask before now a b NoStore serves ready calm so = absurd (lacks_none _ _ ready.there.0 ready.there.1 (so.no_store refl))
 ended reads means ask before now a b StoreFailed serves ready calm so = absurd (calm.stores (so.store_failed refl))
 ended reads means ask before now a b (Damaged file at) serves ready calm so = absurd (stands_damaged reads means ask before file at ready (so.damaged_at file at refl))
 ended reads means ask before now a b NetworkFailed serves ready calm so = absurd (calm.network (so.network_failed refl))

@@ -4,12 +4,13 @@ use Rattle.sig_outside.specs.Causes.{Rose}
 use Rattle.sig_command.specs.Moment.{OutputState}
 use Rattle.sig_init.specs.Files.{KeepsBut, StaysTold, file_a, file_b}
 use Rattle.sig_fetch.specs.declared.fetched.Fetched.{Fetched}
+use Rattle.sig_opening.specs.Files.{LackOne}
 use Rattle.sig_opening.specs.Stays.{KeepsOtherSettings}
 use Rattle.sig_receive.specs.Ends as rx
-use Rattle.sig_receive.specs.Fetching.{FetchesBy}
+use Rattle.sig_receive.specs.Fetching.{FetchesBy, UnlessThere}
 use Rattle.sig_receive.specs.Peers.{FetchRefused, fetch_settings_of}
 use Rattle.sig_receive.specs.declared.ending.FetchEnd.{FetchEnd}
-use Rattle.sig_receive.specs.declared.ending.FetchEnd.TheVariants.{Done, SettingsFailed, Refused, StoreFailed, Damaged, NetworkFailed, Full, Peer, Memory}
+use Rattle.sig_receive.specs.declared.ending.FetchEnd.TheVariants.{Done, SettingsFailed, Refused, NoStore, StoreFailed, Damaged, NetworkFailed, Full, Peer, Memory}
 use Rattle.sig_service.specs.Asking.{StoreAsked}
 use Rattle.sig_service.specs.LastLine.{PutLast}
 use Rattle.sig_service.specs.Outside.{OutsideState, beside_store}
@@ -22,6 +23,7 @@ abbrev pub status_of : FetchEnd → ℕ
 status_of (Done fetched) = 0
 status_of SettingsFailed = 3
 status_of (Refused member) = 10
+status_of NoStore = 6
 status_of StoreFailed = 5
 status_of (Damaged file at) = 6
 status_of NetworkFailed = 7
@@ -40,6 +42,7 @@ abbrev pub last_line : FetchEnd → List ℕ
 last_line (Done fetched) = counts_line fetched
 last_line SettingsFailed = codes "signals: input failed\n"
 last_line (Refused member) = codes "signals: settings " ++ member ++ codes "\n"
+last_line NoStore = codes "signals: no store\n"
 last_line StoreFailed = codes "signals: store failed\n"
 last_line (Damaged file at) = damaged_line file at
 last_line NetworkFailed = codes "signals: network failed\n"
@@ -54,10 +57,13 @@ last_line Memory = codes "signals: memory\n"
 pub record FetchedSo (ask : StoreAsked) (e : FetchEnd) (before now : OutsideState) : Type 0 where
   pub settings_failed : e ≡ SettingsFailed → Rose before.settings_faults now.settings_faults
   pub refused : (member : List ℕ) → e ≡ Refused member → FetchRefused (before.settings ask.settings) member
+  pub no_store : e ≡ NoStore → LackOne (before.there (file_a ask.store)) (before.there (file_b ask.store))
   pub store_failed : e ≡ StoreFailed → Rose before.store_faults now.store_faults
   pub damaged : (file at : ℕ) → e ≡ Damaged file at → rx.IsDamaged (before.stores (file_a ask.store)) (before.stores (file_b ask.store)) file at
   pub network_failed : e ≡ NetworkFailed → Rose before.network_faults now.network_faults
   pub fetches : FetchesBy (before.settings ask.settings) e ask.count (beside_store ask.store before) (beside_store ask.store now)
+  pub there : now.there ≡ before.there
+  pub missing : UnlessThere (before.there (file_a ask.store)) (before.there (file_b ask.store)) e (beside_store ask.store before) (beside_store ask.store now)
   pub back : StaysTold before.stores now.stores (file_a ask.store) × StaysTold before.stores now.stores (file_b ask.store)
   pub others : KeepsBut (file_a ask.store) (file_b ask.store) before.stores now.stores
   pub settings : KeepsOtherSettings ask.settings before.settings now.settings
@@ -70,7 +76,7 @@ FetchRan ask held new_held before after status =
 
 -- ---- where nothing fails
 
--- the settings are told, taken and name a transmitter, and the files of the store are told and stand for a state
+-- the settings are told, taken and name a transmitter, and the files of the store are told, are there and stand for a state
 abbrev pub IsFetchable : StoreAsked → OutsideState → Type 0
 IsFetchable ask now = IsReady fetch_settings_of rx.state_of ask now
 

@@ -1,5 +1,5 @@
 -- What the outside tells, and its counts of faults, at a moment.
-use Rattle.std.specs.Prelude.{ℕ, List, Option}
+use Rattle.std.specs.Prelude.{ℕ, List, Bool, Option}
 use Rattle.sig_links.specs.Told.{Coming, DoorEnd, SideEnd, SidePlan}
 use Rattle.sig_outside.specs.Causes.{Rose}
 use Rattle.sig_command.specs.Moment.{OutputState}
@@ -11,17 +11,19 @@ use Rattle.sig_receive.specs.Sides.{Beside, Sides, sides_of}
 pub record OutsideState : Type 0 where
   pub settings : Held
   pub stores : Held
+  pub there : List ℕ → Option Bool
   pub doors : Doors
   pub sides : Sides
   pub settings_faults : ℕ
   pub store_faults : ℕ
   pub network_faults : ℕ
 
-abbrev pub outside_state : {X : Type 0} → (X → Held) → (X → Held) → (X → Option (List (List Coming))) → (X → Option (List DoorEnd)) → (X → Option (List SidePlan)) → (X → Option (List SideEnd))
+abbrev pub outside_state : {X : Type 0} → (X → Held) → (X → Held) → (X → List ℕ → Option Bool) → (X → Option (List (List Coming))) → (X → Option (List DoorEnd)) → (X → Option (List SidePlan)) → (X → Option (List SideEnd))
     → (X → ℕ) → (X → ℕ) → (X → ℕ) → X → OutsideState
-outside_state settings stores doors doors_back sides sides_back settings_faults store_faults network_faults x = record {
+outside_state settings stores there doors doors_back sides sides_back settings_faults store_faults network_faults x = record {
   settings = settings x;
   stores = stores x;
+  there = there x;
   doors = doors_of (doors x) (doors_back x);
   sides = sides_of (sides x) (sides_back x);
   settings_faults = settings_faults x;

@@ -1,5 +1,5 @@
 -- How a run of `serve` or `receive` ends: for each ending its status, its last line, and what became of what the outside tells.
-use Rattle.std.specs.Prelude.{◌≡◌, ◌==◌, ℕ, List, [], ◌++◌, Some, Result, Ok, codes, decimal, if◌then◌else◌}
+use Rattle.std.specs.Prelude.{◌≡◌, ◌==◌, ℕ, List, [], ◌++◌, true, Some, Result, Ok, codes, decimal, if◌then◌else◌}
 use Rattle.sig_outside.specs.Causes.{Rose}
 use Rattle.sig_command.specs.Moment.{OutputState}
 use Rattle.sig_journal.specs.declared.fault.LoadFault.{LoadFault}
@@ -8,9 +8,11 @@ use Rattle.sig_settings.specs.declared.fault.SettingsFault.{SettingsFault}
 use Rattle.sig_txsettings.specs.Settings.{tx_settings_of}
 use Rattle.sig_rxsettings.specs.Settings.{rx_settings_of}
 use Rattle.sig_logs.specs.declared.difference.Differ.TheVariants as differ
+use Rattle.sig_opening.specs.Files.{LackOne}
+use Rattle.sig_opening.specs.Serving.{UnlessThere}
 use Rattle.sig_opening.specs.Stays.{KeepsOtherSettings}
 use Rattle.sig_opening.specs.declared.ending.ServeEnd.{ServeEnd}
-use Rattle.sig_opening.specs.declared.ending.ServeEnd.TheVariants.{Done, SettingsFailed, Refused, StoreFailed, Damaged, NetworkFailed, Disagree, Memory}
+use Rattle.sig_opening.specs.declared.ending.ServeEnd.TheVariants.{Done, SettingsFailed, Refused, NoStore, StoreFailed, Damaged, NetworkFailed, Disagree, Memory}
 use Rattle.sig_serve.specs.Ends as tx
 use Rattle.sig_serve.specs.Serving as tx_serving
 use Rattle.sig_receive.specs.Ends as rx
@@ -28,6 +30,7 @@ abbrev pub status_of : ServeEnd → ℕ
 status_of Done = 0
 status_of SettingsFailed = 3
 status_of (Refused member) = 10
+status_of NoStore = 6
 status_of StoreFailed = 5
 status_of (Damaged file at) = 6
 status_of NetworkFailed = 7
@@ -47,6 +50,7 @@ abbrev pub last_line : ServeEnd → List ℕ
 last_line Done = []
 last_line SettingsFailed = codes "signals: input failed\n"
 last_line (Refused member) = codes "signals: settings " ++ member ++ codes "\n"
+last_line NoStore = codes "signals: no store\n"
 last_line StoreFailed = codes "signals: store failed\n"
 last_line (Damaged file at) = damaged_line file at
 last_line NetworkFailed = codes "signals: network failed\n"
@@ -56,14 +60,17 @@ last_line Memory = codes "signals: memory\n"
 -- ---- what it did
 
 -- what a serving that ended so did: its cause, by what refused settings and damaged stores are, its watches from the store that was
--- opened to the one that was put back, and what stays as it was
+-- opened to the one that was put back, that it made no file, and what stays as it was
 pub record EndedSo (refused : List ℕ → Type 0) (damaged : ℕ → ℕ → Type 0) (serves : Type 0) (ask : StoreAsked) (e : ServeEnd) (before now : OutsideState) : Type 0 where
   pub settings_failed : e ≡ SettingsFailed → Rose before.settings_faults now.settings_faults
   pub refused_at : (member : List ℕ) → e ≡ Refused member → refused member
+  pub no_store : e ≡ NoStore → LackOne (before.there (file_a ask.store)) (before.there (file_b ask.store))
   pub store_failed : e ≡ StoreFailed → Rose before.store_faults now.store_faults
   pub damaged_at : (file at : ℕ) → e ≡ Damaged file at → damaged file at
   pub network_failed : e ≡ NetworkFailed → Rose before.network_faults now.network_faults
   pub served : serves
+  pub there : now.there ≡ before.there
+  pub missing : UnlessThere (before.there (file_a ask.store)) (before.there (file_b ask.store)) e (around_store ask.store before) (around_store ask.store now)
   pub back : StaysTold before.stores now.stores (file_a ask.store) × StaysTold before.stores now.stores (file_b ask.store)
   pub others : KeepsBut (file_a ask.store) (file_b ask.store) before.stores now.stores
   pub settings : KeepsOtherSettings ask.settings before.settings now.settings
@@ -85,7 +92,7 @@ ServerRan ask held new_held before after status =
 
 -- ---- where nothing fails
 
--- the settings are told and taken by this reader, and the files of the store are told and mean a state
+-- the settings are told and taken by this reader, and the files of the store are told, are there and mean a state
 pub record IsReady {T S : Type 0} (reads : List ℕ → Result T SettingsFault) (means : List ℕ → List ℕ → Result S LoadFault) (ask : StoreAsked) (now : OutsideState) : Type 0 where
   pub bytes : List ℕ
   pub told : now.settings ask.settings ≡ Some bytes
@@ -95,6 +102,7 @@ pub record IsReady {T S : Type 0} (reads : List ℕ → Result T SettingsFault) 
   pub a_told : now.stores (file_a ask.store) ≡ Some a
   pub b : List ℕ
   pub b_told : now.stores (file_b ask.store) ≡ Some b
+  pub there : (now.there (file_a ask.store) ≡ Some true) × (now.there (file_b ask.store) ≡ Some true)
   pub state : S
   pub stands : means a b ≡ Ok state
 

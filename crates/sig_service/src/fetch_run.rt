@@ -24,8 +24,8 @@ pub(crate) fn run_fetch<X: Outside, O: Sink>(
     outside: &mut X,
 ) -> u8
     ensures ends { FetchRan (record { settings = over.entry.settings.now; store = over.entry.store.now; count = over.entry.count })
-        (outside_state X.settings_of X.held X.doors X.doors_back X.sides X.sides_back X.settings_faults X.store_faults X.network_faults outside.old)
-        (outside_state X.settings_of X.held X.doors X.doors_back X.sides X.sides_back X.settings_faults X.store_faults X.network_faults outside.new)
+        (outside_state X.settings_of X.held X.there X.doors X.doors_back X.sides X.sides_back X.settings_faults X.store_faults X.network_faults outside.old)
+        (outside_state X.settings_of X.held X.there X.doors X.doors_back X.sides X.sides_back X.settings_faults X.store_faults X.network_faults outside.new)
         (output_state (O.written output.old) (O.faults output.old) (O.stalls output.old)) (output_state (O.written output.new) (O.faults output.new) (O.stalls output.new)) result }
     ensures doors { (X.doors outside.new ≡ X.doors outside.old) × (X.doors_out outside.new ≡ X.doors_out outside.old) × (X.doors_back outside.new ≡ X.doors_back outside.old) }
 {
@@ -43,6 +43,7 @@ fn close<O: Sink>(end: FetchEnd, output: &mut O) -> u8
         FetchEnd::Refused(member) => {
             put_last_of(10, "signals: settings ", member.as_str(), "\n", output)
         }
+        FetchEnd::NoStore => put_last(6, "signals: no store\n", output),
         FetchEnd::StoreFailed => put_last(5, "signals: store failed\n", output),
         FetchEnd::Damaged { file, at } => put_damaged(file, at, output),
         FetchEnd::NetworkFailed => put_last(7, "signals: network failed\n", output),

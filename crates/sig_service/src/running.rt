@@ -29,8 +29,8 @@ use std::thread::Threads;
 /// Does what the words ask for, and answers the exit status. For the words of `serve` and `receive` it may wait for links.
 ///
 /// For those words it is 0 where as many watches ran as were asked for or the door is shut, 3 where the settings couldn't be
-/// read, 10 where they are refused, 5 where a file of the store couldn't be opened or its disk failed, 6 where the store is
-/// damaged, 7 where the door couldn't be opened or it failed, 8 where two kept values differ, 9 out of memory, and 4 where the
+/// read, 10 where they are refused, 5 where a file of the store couldn't be opened or its disk failed, 6 where the store isn't
+/// there or is damaged, 7 where the door couldn't be opened or it failed, 8 where two kept values differ, 9 out of memory, and 4 where the
 /// output stopped at the last line. For all other words it is the one of `run_plain`.
 pub fn run<R: Threads + Wait + Sync, X: Outside, I: Source, O: Sink>(
     alloc: Global,
@@ -41,12 +41,12 @@ pub fn run<R: Threads + Wait + Sync, X: Outside, I: Source, O: Sink>(
     outside: &mut X,
 ) -> u8
     ensures serves { IfSome (spec.server_of (map (λ word. string_bytes word) words.now)) (λ ask. ServerRan ask
-        (outside_state X.settings_of X.held X.doors X.doors_back X.sides X.sides_back X.settings_faults X.store_faults X.network_faults outside.old)
-        (outside_state X.settings_of X.held X.doors X.doors_back X.sides X.sides_back X.settings_faults X.store_faults X.network_faults outside.new)
+        (outside_state X.settings_of X.held X.there X.doors X.doors_back X.sides X.sides_back X.settings_faults X.store_faults X.network_faults outside.old)
+        (outside_state X.settings_of X.held X.there X.doors X.doors_back X.sides X.sides_back X.settings_faults X.store_faults X.network_faults outside.new)
         (output_state (O.written output.old) (O.faults output.old) (O.stalls output.old)) (output_state (O.written output.new) (O.faults output.new) (O.stalls output.new)) result) }
     ensures fetches { IfSome (spec.fetch_of (map (λ word. string_bytes word) words.now)) (λ ask. FetchRan ask
-        (outside_state X.settings_of X.held X.doors X.doors_back X.sides X.sides_back X.settings_faults X.store_faults X.network_faults outside.old)
-        (outside_state X.settings_of X.held X.doors X.doors_back X.sides X.sides_back X.settings_faults X.store_faults X.network_faults outside.new)
+        (outside_state X.settings_of X.held X.there X.doors X.doors_back X.sides X.sides_back X.settings_faults X.store_faults X.network_faults outside.old)
+        (outside_state X.settings_of X.held X.there X.doors X.doors_back X.sides X.sides_back X.settings_faults X.store_faults X.network_faults outside.new)
         (output_state (O.written output.old) (O.faults output.old) (O.stalls output.old)) (output_state (O.written output.new) (O.faults output.new) (O.stalls output.new)) result) }
     ensures init { IfSome (spec.init_of (map (λ word. string_bytes word) words.now)) (λ ask. InitRan ask
         (X.held outside.old) (X.held outside.new) (X.store_faults outside.old) (X.store_faults outside.new)
@@ -66,18 +66,18 @@ pub fn run<R: Threads + Wait + Sync, X: Outside, I: Source, O: Sink>(
     // Without faults, settings that are taken and a store that stands for a state are served to the end, or until something
     // differs, or until memory runs out.
     ensures served { (ask : spec.ServerAsked) → spec.server_of (map (λ word. string_bytes word) words.now) ≡ Some ask
-        → IsServable ask (outside_state X.settings_of X.held X.doors X.doors_back X.sides X.sides_back X.settings_faults X.store_faults X.network_faults outside.old)
-        → MeetsNoFault (outside_state X.settings_of X.held X.doors X.doors_back X.sides X.sides_back X.settings_faults X.store_faults X.network_faults outside.old)
-        (outside_state X.settings_of X.held X.doors X.doors_back X.sides X.sides_back X.settings_faults X.store_faults X.network_faults outside.new)
+        → IsServable ask (outside_state X.settings_of X.held X.there X.doors X.doors_back X.sides X.sides_back X.settings_faults X.store_faults X.network_faults outside.old)
+        → MeetsNoFault (outside_state X.settings_of X.held X.there X.doors X.doors_back X.sides X.sides_back X.settings_faults X.store_faults X.network_faults outside.old)
+        (outside_state X.settings_of X.held X.there X.doors X.doors_back X.sides X.sides_back X.settings_faults X.store_faults X.network_faults outside.new)
         (output_state (O.written output.old) (O.faults output.old) (O.stalls output.old)) (output_state (O.written output.new) (O.faults output.new) (O.stalls output.new))
         → (result ≡ 0) ⊎ (result ≡ 8) ⊎ (result ≡ 9) }
 
     // Without faults, settings that are taken and name a transmitter, and a store that stands for a state: a fetch is done,
     // or memory ran out, the journal is full, or the transmitter gave no page.
     ensures fetched { (ask : spec.StoreAsked) → spec.fetch_of (map (λ word. string_bytes word) words.now) ≡ Some ask
-        → IsFetchable ask (outside_state X.settings_of X.held X.doors X.doors_back X.sides X.sides_back X.settings_faults X.store_faults X.network_faults outside.old)
-        → MeetsNoFault (outside_state X.settings_of X.held X.doors X.doors_back X.sides X.sides_back X.settings_faults X.store_faults X.network_faults outside.old)
-        (outside_state X.settings_of X.held X.doors X.doors_back X.sides X.sides_back X.settings_faults X.store_faults X.network_faults outside.new)
+        → IsFetchable ask (outside_state X.settings_of X.held X.there X.doors X.doors_back X.sides X.sides_back X.settings_faults X.store_faults X.network_faults outside.old)
+        → MeetsNoFault (outside_state X.settings_of X.held X.there X.doors X.doors_back X.sides X.sides_back X.settings_faults X.store_faults X.network_faults outside.old)
+        (outside_state X.settings_of X.held X.there X.doors X.doors_back X.sides X.sides_back X.settings_faults X.store_faults X.network_faults outside.new)
         (output_state (O.written output.old) (O.faults output.old) (O.stalls output.old)) (output_state (O.written output.new) (O.faults output.new) (O.stalls output.new))
         → EndsCalm result }
 
@@ -132,8 +132,8 @@ pub fn run_plain<X: Outside, I: Source, O: Sink>(
         (moment (I.left input.old) (I.faults input.old) (O.written output.old) (O.faults output.old) (O.stalls output.old))
         (moment (I.left input.new) (I.faults input.new) (O.written output.new) (O.faults output.new) (O.stalls output.new)) result }
     ensures fetches { IfSome (spec.fetch_of (map (λ word. string_bytes word) words.now)) (λ ask. FetchRan ask
-        (outside_state X.settings_of X.held X.doors X.doors_back X.sides X.sides_back X.settings_faults X.store_faults X.network_faults outside.old)
-        (outside_state X.settings_of X.held X.doors X.doors_back X.sides X.sides_back X.settings_faults X.store_faults X.network_faults outside.new)
+        (outside_state X.settings_of X.held X.there X.doors X.doors_back X.sides X.sides_back X.settings_faults X.store_faults X.network_faults outside.old)
+        (outside_state X.settings_of X.held X.there X.doors X.doors_back X.sides X.sides_back X.settings_faults X.store_faults X.network_faults outside.new)
         (output_state (O.written output.old) (O.faults output.old) (O.stalls output.old)) (output_state (O.written output.new) (O.faults output.new) (O.stalls output.new)) result) }
     ensures init { IfSome (spec.init_of (map (λ word. string_bytes word) words.now)) (λ ask. InitRan ask
         (X.held outside.old) (X.held outside.new) (X.store_faults outside.old) (X.store_faults outside.new)
@@ -148,9 +148,9 @@ pub fn run_plain<X: Outside, I: Source, O: Sink>(
     // Without faults, settings that are taken and name a transmitter, and a store that stands for a state: a fetch is done,
     // or memory ran out, the journal is full, or the transmitter gave no page.
     ensures fetched { (ask : spec.StoreAsked) → spec.fetch_of (map (λ word. string_bytes word) words.now) ≡ Some ask
-        → IsFetchable ask (outside_state X.settings_of X.held X.doors X.doors_back X.sides X.sides_back X.settings_faults X.store_faults X.network_faults outside.old)
-        → MeetsNoFault (outside_state X.settings_of X.held X.doors X.doors_back X.sides X.sides_back X.settings_faults X.store_faults X.network_faults outside.old)
-        (outside_state X.settings_of X.held X.doors X.doors_back X.sides X.sides_back X.settings_faults X.store_faults X.network_faults outside.new)
+        → IsFetchable ask (outside_state X.settings_of X.held X.there X.doors X.doors_back X.sides X.sides_back X.settings_faults X.store_faults X.network_faults outside.old)
+        → MeetsNoFault (outside_state X.settings_of X.held X.there X.doors X.doors_back X.sides X.sides_back X.settings_faults X.store_faults X.network_faults outside.old)
+        (outside_state X.settings_of X.held X.there X.doors X.doors_back X.sides X.sides_back X.settings_faults X.store_faults X.network_faults outside.new)
         (output_state (O.written output.old) (O.faults output.old) (O.stalls output.old)) (output_state (O.written output.new) (O.faults output.new) (O.stalls output.new))
         → EndsCalm result }
 

@@ -28,8 +28,8 @@ pub(crate) fn run_server<R: Threads + Wait + Sync, X: Outside, O: Sink>(
     outside: &mut X,
 ) -> u8
     ensures ends { ServerRan (record { server = server; over = record { settings = over.entry.settings.now; store = over.entry.store.now; count = over.entry.count } })
-        (outside_state X.settings_of X.held X.doors X.doors_back X.sides X.sides_back X.settings_faults X.store_faults X.network_faults outside.old)
-        (outside_state X.settings_of X.held X.doors X.doors_back X.sides X.sides_back X.settings_faults X.store_faults X.network_faults outside.new)
+        (outside_state X.settings_of X.held X.there X.doors X.doors_back X.sides X.sides_back X.settings_faults X.store_faults X.network_faults outside.old)
+        (outside_state X.settings_of X.held X.there X.doors X.doors_back X.sides X.sides_back X.settings_faults X.store_faults X.network_faults outside.new)
         (output_state (O.written output.old) (O.faults output.old) (O.stalls output.old)) (output_state (O.written output.new) (O.faults output.new) (O.stalls output.new)) result }
     ensures sides { (X.sides outside.new ≡ X.sides outside.old) × (X.sides_out outside.new ≡ X.sides_out outside.old) × (X.sides_back outside.new ≡ X.sides_back outside.old) }
 {
@@ -46,8 +46,8 @@ fn served<R: Threads + Wait + Sync, X: Outside>(
     outside: &mut X,
 ) -> ServeEnd
     ensures so { ServedSo server (record { settings = over.entry.settings.now; store = over.entry.store.now; count = over.entry.count }) result
-        (outside_state X.settings_of X.held X.doors X.doors_back X.sides X.sides_back X.settings_faults X.store_faults X.network_faults outside.old)
-        (outside_state X.settings_of X.held X.doors X.doors_back X.sides X.sides_back X.settings_faults X.store_faults X.network_faults outside.new) }
+        (outside_state X.settings_of X.held X.there X.doors X.doors_back X.sides X.sides_back X.settings_faults X.store_faults X.network_faults outside.old)
+        (outside_state X.settings_of X.held X.there X.doors X.doors_back X.sides X.sides_back X.settings_faults X.store_faults X.network_faults outside.new) }
     ensures sides { (X.sides outside.new ≡ X.sides outside.old) × (X.sides_out outside.new ≡ X.sides_out outside.old) × (X.sides_back outside.new ≡ X.sides_back outside.old) }
 {
     match server {
@@ -66,6 +66,7 @@ fn close<O: Sink>(end: ServeEnd, output: &mut O) -> u8
         ServeEnd::Refused(member) => {
             put_last_of(10, "signals: settings ", member.as_str(), "\n", output)
         }
+        ServeEnd::NoStore => put_last(6, "signals: no store\n", output),
         ServeEnd::StoreFailed => put_last(5, "signals: store failed\n", output),
         ServeEnd::Damaged { file, at } => put_damaged(file, at, output),
         ServeEnd::NetworkFailed => put_last(7, "signals: network failed\n", output),

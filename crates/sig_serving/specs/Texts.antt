@@ -7,7 +7,7 @@ use Rattle.sig_http.specs.declared.message.Response.{Response}
 
 -- the text of the response where memory runs out (RFC 4918, section 11.5), which is fixed
 unfoldable pub memory_text : List ℕ
-memory_text = codes "HTTP/1.1 507 Insufficient Storage\r\nconnection: close\r\ncontent-length: 0\r\n\r\n"
+memory_text = codes "HTTP/1.1 507 Insufficient Storage\r\ncache-control: no-store\r\nconnection: close\r\ncontent-length: 0\r\n\r\n"
 
 -- the text of a response, and nothing where there is none
 abbrev pub spelled : Option Response → List ℕ

@@ -18,7 +18,7 @@ use std::alloc::Global;
 fn memory_response() -> &'static [u8]
     ensures { result.now ≡ memory_text }
 {
-    b"HTTP/1.1 507 Insufficient Storage\r\nconnection: close\r\ncontent-length: 0\r\n\r\n"
+    b"HTTP/1.1 507 Insufficient Storage\r\ncache-control: no-store\r\nconnection: close\r\ncontent-length: 0\r\n\r\n"
 }
 
 /// Writes that memory ran out, as far as the link takes it.

@@ -1,11 +1,16 @@
 -- How long a link over TCP waits for its peer, in milliseconds since it was made.
 use Rattle.std.specs.Prelude.{ℕ, ◌+◌, ◌-◌, ◌^◌, true, false, min, nat_lt, Option, Some, None, if◌then◌else◌}
 use Rattle.sig_system.specs.declared.deadline.Deadline.{Deadline}
-use Rattle.sig_system.specs.declared.deadline.TheConstants.{HURRY_MILLISECONDS, IDLE_MILLISECONDS, READ_MILLISECONDS, REQUEST_MILLISECONDS, WRITE_MILLISECONDS}
+use Rattle.sig_system.specs.declared.deadline.TheConstants.{EXCHANGE_MILLISECONDS, HURRY_MILLISECONDS, IDLE_MILLISECONDS, READ_MILLISECONDS, REQUEST_MILLISECONDS, ROUND_MILLISECONDS, WRITE_MILLISECONDS}
 
 -- under a limit and until a moment: the lesser of the limit and what is left, and no time once that moment has come
 abbrev pub waits : ℕ → ℕ → ℕ → Option ℕ
 waits limit until now = if nat_lt now until then Some (min limit (until - now)) else None
+
+-- a link that is dialled may take as long as one may, and no longer than its round has left that has lasted so long
+abbrev pub exchange_after : Option ℕ → Option ℕ
+exchange_after None = Some EXCHANGE_MILLISECONDS
+exchange_after (Some lasted) = waits EXCHANGE_MILLISECONDS ROUND_MILLISECONDS lasted
 
 -- a link that was just made, and ends after so many seconds
 abbrev pub after : ℕ → Deadline

@@ -16,6 +16,9 @@ pub const HURRY_MILLISECONDS: u64 = 250;
 /// How many milliseconds after its dial a link ends that was dialled.
 pub const EXCHANGE_MILLISECONDS: u64 = 15_000;
 
+/// How many milliseconds after it began a round of pushes over one stream dials no more, and its last link ends.
+pub const ROUND_MILLISECONDS: u64 = 15_000;
+
 /// How many milliseconds a read of a link waits for bytes before it fails.
 pub const READ_MILLISECONDS: u64 = 30_000;
 
@@ -98,4 +101,14 @@ pub fn within(limit: u64, until: u64, now: u64) -> Option<u64>
         return None;
     }
     Some(limit.min(until - now))
+}
+
+// How many milliseconds a link may take that is dialled now: where it is of a round, that has lasted so long.
+pub fn exchange_after(lasted: Option<u64>) -> Option<u64>
+    ensures { result ≡ spec.exchange_after lasted }
+{
+    match lasted {
+        Some(lasted) => within(EXCHANGE_MILLISECONDS, ROUND_MILLISECONDS, lasted),
+        None => Some(EXCHANGE_MILLISECONDS),
+    }
 }

@@ -53,9 +53,30 @@ impl FileDisk {
             .create(true)
             .mode(OWNER_ALONE)
             .open(rt, path);
-        let Ok(file) = opened else {
-            return Err(OpenFault::Failed);
-        };
+        match opened {
+            Ok(file) => FileDisk::over(rt, file, path),
+            Err(_) => Err(OpenFault::Failed),
+        }
+    }
+
+    /// Opens a file that is there, as `open` does; none where there is no such file, and then none is made.
+    pub fn existing<R: Files<File = File>>(
+        rt: &R,
+        path: &str,
+    ) -> Result<Option<FileDisk>, OpenFault>
+        ensures { IfOk result (λ found. IfSome found (λ disk. disk ≡ 0)) }
+    {
+        match OpenOptions::new().read(true).write(true).open(rt, path) {
+            Ok(file) => Ok(Some(FileDisk::over(rt, file, path)?)),
+            Err(error) if error.kind() == ErrorKind::NotFound => Ok(None),
+            Err(_) => Err(OpenFault::Failed),
+        }
+    }
+
+    // A file that was opened at this path, once it is locked and read as the disk has it.
+    fn over<R: Files<File = File>>(rt: &R, file: File, path: &str) -> Result<FileDisk, OpenFault>
+        ensures { IfOk result (λ disk. disk ≡ 0) }
+    {
         match file.try_lock() {
             Ok(()) => {}
             Err(TryLockError::WouldBlock) => return Err(OpenFault::InUse),

@@ -13,8 +13,8 @@
 //! that isn't empty is counted as a stall. Over a reader or writer that tells its bytes, as one in memory, a call gives or
 //! takes exactly those. A read or write that the system interrupts is tried again, and is no fault. Reads and writes of files
 //! go on after short ones; a sync is of the file's bytes and size; a file is opened so that a second process is refused. A
-//! read and a write of a link, a request, a link as a whole and a dial have limits of time; one that is passed is a fault. An
-//! accept waits a second, and a door may ask the links that it gave to end soon.
+//! read and a write of a link, a request, a link as a whole, a dial and a round of pushes over one stream have limits of time;
+//! one that is passed is a fault. An accept waits a second, and a door may ask the links that it gave to end soon.
 //!
 //! Left out: everything of content, since no contract can say what the system gives or takes; that a real disk keeps what it
 //! was asked to sync; and how long it takes to look up the addresses of a name, which has no limit here.
@@ -36,7 +36,7 @@ mod writer_sink;
 pub use again::{read_again, write_again};
 pub use deadline::{
     EXCHANGE_MILLISECONDS, HURRY_MILLISECONDS, IDLE_MILLISECONDS, LINK_MILLISECONDS,
-    READ_MILLISECONDS, REQUEST_MILLISECONDS, WRITE_MILLISECONDS,
+    READ_MILLISECONDS, REQUEST_MILLISECONDS, ROUND_MILLISECONDS, WRITE_MILLISECONDS,
 };
 pub use file_disk::{FileDisk, OpenFault};
 pub use outside_fault::OutsideFault;

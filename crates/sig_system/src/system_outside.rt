@@ -53,7 +53,7 @@ impl<R> SystemOutside<R> {
         }
     }
 
-    /// Why the last of the calls `settings`, `store` and `door` failed that did, for the message to the operator.
+    /// Why the last of the calls `settings`, `store`, `existing_store` and `door` failed that did, for the message to the operator.
     pub fn last_fault(&self) -> Option<OutsideFault>
         ensures { result ≡ self.now.last }
     {
@@ -77,6 +77,8 @@ impl<
     ghost held = { λ o name. None };
 
     ghost lent = { λ o name. true };
+
+    ghost there = { λ o name. None };
 
     ghost doors = { λ o. None };
 
@@ -123,6 +125,21 @@ impl<
     {
         match open_store(&self.rt, name) {
             Ok(given) => Ok(given),
+            Err(fault) => {
+                self.last = Some(fault);
+                Err(self.stores.raise())
+            }
+        }
+    }
+
+    fn existing_store(&mut self, name: &str) -> Result<Option<FileDisk>, Failed>
+        ensures whole { IfOk result (λ found. IfSome found (λ disk. disk ≡ 0)) }
+        ensures done { OnOk result (self.new ≡ self.old) }
+        ensures why { OnErr result (IfSome self.new.last IsOfStore × (self.new ≡ record self.old { stores = self.new.stores; last = self.new.last })) }
+        ensures cause { HasCause self.old.stores self.new.stores result }
+    {
+        match open_existing(&self.rt, name) {
+            Ok(found) => Ok(found),
             Err(fault) => {
                 self.last = Some(fault);
                 Err(self.stores.raise())
@@ -202,7 +219,30 @@ fn open_store<R: Files<File = File>>(rt: &R, path: &str) -> Result<FileDisk, Out
 {
     match FileDisk::open(rt, path) {
         Ok(disk) => Ok(disk),
-        Err(OpenFault::Failed) => Err(OutsideFault::Store),
-        Err(OpenFault::InUse) => Err(OutsideFault::StoreInUse),
+        Err(fault) => Err(unopened(fault)),
+    }
+}
+
+// The store in the file at this path, where there is one.
+fn open_existing<R: Files<File = File>>(
+    rt: &R,
+    path: &str,
+) -> Result<Option<FileDisk>, OutsideFault>
+    ensures whole { IfOk result (λ found. IfSome found (λ disk. disk ≡ 0)) }
+    ensures why { IfErr result IsOfStore }
+{
+    match FileDisk::existing(rt, path) {
+        Ok(found) => Ok(found),
+        Err(fault) => Err(unopened(fault)),
+    }
+}
+
+// Why a store isn't had whose file wasn't opened.
+fn unopened(fault: OpenFault) -> OutsideFault
+    ensures { IsOfStore result }
+{
+    match fault {
+        OpenFault::Failed => OutsideFault::Store,
+        OpenFault::InUse => OutsideFault::StoreInUse,
     }
 }

@@ -3,7 +3,8 @@ ghost use Rattle.sig_outside.specs.Causes.{HasCause};
 ghost use Rattle.sig_system.specs.Adapters.{pair_of, untold, unused};
 
 use crate::TcpLink;
-use crate::deadline::{EXCHANGE_MILLISECONDS, within};
+use crate::deadline::{exchange_after, within};
+use crate::timing::milliseconds;
 use sig_links::{FaultCount, Side};
 use sig_outside::{Failed, Place};
 use std::alloc::Global;
@@ -25,6 +26,8 @@ pub struct TcpSide<R> {
     rt: R,
     alloc: Global,
     time: u64,
+    // When the round began whose links it dials, if it is asked for rounds.
+    round: Option<Instant>,
     faults: FaultCount,
 }
 
@@ -45,6 +48,7 @@ impl<R> TcpSide<R> {
             rt,
             alloc,
             time: 0,
+            round: None,
             faults: FaultCount::new(),
         }
     }
@@ -70,9 +74,16 @@ impl<R: Net<Stream = TcpStream> + Clock + Copy> Side for TcpSide<R> {
         ensures link { IfOk result (λ link. link ≡ unused (Some (pair_of place.now))) }
         ensures cause { HasCause self.old self.new result }
     {
-        match connect(self.alloc, self.rt, place) {
+        match connect(self.alloc, self.rt, place, &self.round) {
             Some(link) => Ok(link),
             None => Err(self.faults.raise()),
+        }
+    }
+
+    // Where the clock can't be read, the round before goes on.
+    fn begin_round(&mut self) {
+        if let Ok(now) = Instant::now(&self.rt) {
+            self.round = Some(now);
         }
     }
 
@@ -90,11 +101,12 @@ impl<R: Net<Stream = TcpStream> + Clock + Copy> Side for TcpSide<R> {
     }
 }
 
-// A link to the first address of this place that answers in time.
+// A link to the first address of this place that answers in time, which ends with the round that began then.
 fn connect<R: Net<Stream = TcpStream> + Clock + Copy>(
     alloc: Global,
     rt: R,
     place: &Place,
+    round: &Option<Instant>,
 ) -> Option<TcpLink<R>>
     ensures { IfSome result (λ link. link ≡ unused (Some (pair_of place.now))) }
 {
@@ -102,10 +114,12 @@ fn connect<R: Net<Stream = TcpStream> + Clock + Copy>(
     let addresses = (place.host.as_str(), place.port).to_socket_addrs(&rt).ok()?;
     let since = Instant::now(&rt).ok()?;
     for address in addresses.take(DIAL_ADDRESSES) {
-        let now = since.elapsed(&rt).ok()?.as_secs();
-        let wait = Duration::from_secs(within(DIAL_SECONDS, DIAL_SECONDS, now)?);
+        let left = left_of(&rt, round)?;
+        let lasted = milliseconds(since.elapsed(&rt).ok()?);
+        let wait = Duration::from_millis(within(left, DIAL_SECONDS * 1_000, lasted)?);
         if let Ok(stream) = TcpStream::connect_timeout(&rt, &address, wait) {
-            return TcpLink::over(stream, Some(kept), rt, EXCHANGE_MILLISECONDS, None).ok();
+            let left = left_of(&rt, round)?;
+            return TcpLink::over(stream, Some(kept), rt, left, None).ok();
         }
     }
     None
@@ -115,4 +129,12 @@ fn connect<R: Net<Stream = TcpStream> + Clock + Copy>(
 fn seconds<R: Clock>(rt: &R) -> Option<u64> {
     let now = SystemTime::now(rt).ok()?;
     Some(now.duration_since(UNIX_EPOCH).ok()?.as_secs())
+}
+
+// How many milliseconds a link may take that is dialled now, by when its round began, if it is of one.
+fn left_of<R: Clock>(rt: &R, round: &Option<Instant>) -> Option<u64> {
+    match round {
+        Some(since) => exchange_after(Some(milliseconds(since.elapsed(rt).ok()?))),
+        None => exchange_after(None),
+    }
 }

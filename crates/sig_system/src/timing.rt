@@ -46,7 +46,7 @@ impl<R: Clock + Copy> Timing<R> {
         let Ok(elapsed) = self.since.elapsed(&self.rt) else {
             return Err(Failed);
         };
-        let now = u64::try_from(elapsed.as_millis()).unwrap_or(u64::MAX);
+        let now = milliseconds(elapsed);
         if let Some(bell) = &self.bell {
             if bell.is_rung() {
                 self.deadline.hurry(now);
@@ -119,6 +119,11 @@ pub fn write_in_time<R: Clock + Copy>(
         }
     }
     Err(Failed)
+}
+
+// A time in milliseconds; it stands at its type's end.
+pub fn milliseconds(time: Duration) -> u64 {
+    u64::try_from(time.as_millis()).unwrap_or(u64::MAX)
 }
 
 // Whether a call ended by its wait alone, or by a signal.

@@ -26,30 +26,30 @@ rounds_some rules by streams given a b more starved is h = rw (sym is) (inl h)
 
 module _ (rules : Rules) (turn : Turn) (a : SideView) (x z : List Turn) (k : Option TakerTold) (kept : z ≡ x ++ turn ∷ []) where
   -- its answer names no streams
-  pub follows_none : None ≡ streams_in turn.result → Continues transmitter rules (Turned turn) false x z k k a a
+  pub follows_none : None ≡ streams_in rules turn.result → Continues transmitter rules (Turned turn) false x z k k a a
   follows_none is = record {
     more = [];
     log = kept;
     taker = grew_none k;
-    follows = rounds_none rules (record { link = turn.link; now = turn.now }) (streams_in turn.result) a is;
+    follows = rounds_none rules (record { link = turn.link; now = turn.now }) (streams_in rules turn.result) a is;
   }
 
   -- or memory ran out before
-  pub follows_out : IsSome (streams_in turn.result) → Continues transmitter rules (Turned turn) true x z k k a a
+  pub follows_out : IsSome (streams_in rules turn.result) → Continues transmitter rules (Turned turn) true x z k k a a
   follows_out some = record {
     more = [];
     log = kept;
     taker = grew_none k;
-    follows = rounds_out rules (record { link = turn.link; now = turn.now }) (streams_in turn.result) a some;
+    follows = rounds_out rules (record { link = turn.link; now = turn.now }) (streams_in rules turn.result) a some;
   }
 
   -- or the rounds of these streams follow
   pub follows_rounds : (streams : List (List ℕ)) (b : SideView) (z' : List Turn) (k' : Option TakerTold) (starved : Bool)
-      → Some streams ≡ streams_in turn.result → AllRounded rules (record { link = turn.link; now = turn.now }) streams a b z z' k k' starved
+      → Some streams ≡ streams_in rules turn.result → AllRounded rules (record { link = turn.link; now = turn.now }) streams a b z z' k k' starved
       → Continues transmitter rules (Turned turn) starved x z' k k' a b
   follows_rounds streams b z' k' starved is r = record {
     more = r.more;
     log = r.adds.log ∙ ap (λ (ts : List Turn). ts ++ r.more) kept ∙ append_assoc x (turn ∷ []) r.more;
     taker = r.adds.taker;
-    follows = rounds_some rules (record { link = turn.link; now = turn.now }) streams (streams_in turn.result) a b r.more starved is r.rounds;
+    follows = rounds_some rules (record { link = turn.link; now = turn.now }) streams (streams_in rules turn.result) a b r.more starved is r.rounds;
   }

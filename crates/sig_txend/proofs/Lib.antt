@@ -1,3 +1,4 @@
 pub mod FollowLemmas
 pub mod StoreLemmas
 pub mod WatchLemmas
+pub mod ClientLemmas

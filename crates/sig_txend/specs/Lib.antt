@@ -4,3 +4,4 @@ pub mod Turning
 pub mod Ends
 pub mod Serving
 pub mod Stores
+pub mod Laws

@@ -70,7 +70,7 @@ impl<K: Taker> End for TxEnd<K> {
         turns: &mut Vec<Turn>,
     ) -> Result<(), Memory> {
         let (link, now) = (turn.link, turn.now);
-        let streams = streams_after(alloc, &turn);
+        let streams = streams_after(alloc, rules, &turn);
         turns.push_reserved(turn);
         match streams {
             Ok(Some(named)) => {

@@ -12,8 +12,8 @@
 //! ```
 //!
 //! Promised: each call makes one turn, at a time that the side tells before it; the response is that to its answer, 503 where
-//! the store failed; and a push round follows just those answers that name streams for one, over these streams, at the time of
-//! the turn. A fault of a push ends its round alone, and memory that runs out in it ends the link. Of a watch
+//! the store failed; and a push round follows just those answers that name streams for one, over those of them whose clients the
+//! rules have, at the time of the turn. A fault of a push ends its round alone, and memory that runs out in it ends the link. Of a watch
 //! (`sig_watch::serve_watch::<Transmitter<D>, ..>`): the node that is handed back is one history from the state of the node
 //! that was handed in, under the same rules, and each link was served by these rules; opening it copies nothing that grows
 //! with what was published. Left out: how links are read and written.
@@ -21,6 +21,7 @@
 
 mod end;
 mod following;
+pub mod laws;
 mod locked;
 mod stored;
 mod threads;

@@ -16,6 +16,7 @@ use sig_journal::{NodeFault, Store};
 use sig_json::Memory;
 use sig_outbox::Outbox;
 use sig_outside::Disk;
+use sig_past::Past;
 use sig_terms::{Answer, Call, Fact, Rules};
 use std::alloc::Global;
 
@@ -23,8 +24,8 @@ use std::alloc::Global;
 pub struct Held<D: Disk> {
     pub store: Store<D>,
     pub outbox: Outbox,
-    /// The changes of the turns, in order.
-    pub entries: Vec<Fact>,
+    /// The changes of the turns, in order. Nothing asks for them when the program runs.
+    pub entries: Past<Fact>,
     /// The turns, in order.
     pub turns: Vec<Turn>,
 }
@@ -33,26 +34,26 @@ pub struct Held<D: Disk> {
 fn make_room(
     alloc: Global,
     turns: &mut Vec<Turn>,
-    entries: &mut Vec<Fact>,
+    entries: &mut Past<Fact>,
     call: &Call,
 ) -> Result<Call, Memory>
     ensures copied { IfOk result (λ asked. asked ≡ call.now) }
     ensures turns { turns.new.items ≡ turns.old.items }
     ensures entries { entries.new.items ≡ entries.old.items }
-    ensures room { OnOk result ((vec_len turns.new < vec_capacity turns.new) × (vec_len entries.new < vec_capacity entries.new)) }
+    ensures room { OnOk result ((vec_len turns.new < vec_capacity turns.new) × (length entries.new.items < entries.new.room)) }
 {
     turns.reserve(1)?;
-    entries.reserve(1)?;
+    entries.reserve()?;
     call.copy(alloc)
 }
 
 // Keeps a change last, where there is one.
-fn keep_entry(entries: &mut Vec<Fact>, entry: Option<Fact>)
-    requires { vec_len entries.old < vec_capacity entries.old }
+fn keep_entry(entries: &mut Past<Fact>, entry: Option<Fact>)
+    requires { length entries.old.items < entries.old.room }
     ensures { entries.new.items ≡ entries.old.items ++ option_to_list entry }
 {
     if let Some(fact) = entry {
-        entries.push_reserved(fact);
+        entries.put(&fact);
     }
 }
 
@@ -84,7 +85,7 @@ fn keep_turn<D: Disk>(
     requires rules { IsProperRules rules.now }
     requires call { IsProperCall call }
     requires stands { StandsFor sending D.told D.seen D.may_leave held.old.store held.old.outbox.sum }
-    requires room { (vec_len held.old.turns < vec_capacity held.old.turns) × (vec_len held.old.entries < vec_capacity held.old.entries) }
+    requires room { (vec_len held.old.turns < vec_capacity held.old.turns) × (length held.old.entries.items < held.old.entries.room) }
     ensures answered { Answered (answer_at rules.now held.old.outbox.sum held.old.store.journal.end call time) (change_of rules.now held.old.outbox.sum call time) held.old.store.broken_at held.old.outbox.sum held.new.outbox.sum result }
     ensures turns { held.new.turns.items ≡ with_turn held.old.turns.items link call time result }
     ensures entries { held.new.entries.items ≡ held.old.entries.items ++ option_to_list (when_ok result (change_of rules.now held.old.outbox.sum call time)) }

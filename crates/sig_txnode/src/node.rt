@@ -23,7 +23,8 @@ use sig_json::Memory;
 use sig_json::limits::LAST_NUMBER;
 use sig_outbox::Outbox;
 use sig_outside::Disk;
-use sig_terms::{Answer, Call, Fact, Rules};
+use sig_past::Past;
+use sig_terms::{Answer, Call, Rules};
 use std::alloc::Global;
 use std::marker::Model;
 use std::snapshot::Snapshot;
@@ -119,7 +120,7 @@ impl<D: Disk> TxNode<D> {
         ensures opens { self.new ≡ begun self.old }
     {
         self.base = Snapshot::of(&self.held.outbox);
-        self.held.entries = Vec::new(self.alloc);
+        self.held.entries = Past::new(self.alloc);
         self.held.turns = Vec::new(self.alloc);
     }
 
@@ -135,13 +136,6 @@ impl<D: Disk> TxNode<D> {
         ensures { result.now ≡ self.now.turns }
     {
         self.held.turns.as_slice()
-    }
-
-    /// The facts that these turns made, in order.
-    pub fn entries(&self) -> &[Fact]
-        ensures { result.now ≡ self.now.entries }
-    {
-        self.held.entries.as_slice()
     }
 
     /// How many records stand in the journal. It takes no memory.
@@ -241,7 +235,7 @@ fn opened<D: Disk>(
                 held: Held {
                     store: Store::open(journal),
                     outbox,
-                    entries: Vec::new(alloc),
+                    entries: Past::new(alloc),
                     turns: Vec::new(alloc),
                 },
             })

@@ -1,9 +1,9 @@
 -- The responses to the answers of a transmitter, each of one status (OpenID Shared Signals Framework 1.0, section 8.1; RFC 8936,
--- section 2.5; RFC 9110, section 15).
+-- section 2.5; RFC 9110, section 15). Each but that of the metadata has a secret or tells a state, and no cache may keep it.
 use Rattle.std.specs.Prelude.{ℕ, List, [], ◌∷◌, Bool, false, codes}
 use Rattle.serde_json.specs.Data.{Data}
 use Rattle.serde_json.specs.Written.{compact_text}
-use Rattle.sig_http.specs.Answering.{bad_at}
+use Rattle.sig_http.specs.Answering.{bad_at, empty, is_json, json}
 use Rattle.sig_http.specs.declared.message.Response.{Response}
 use Rattle.sig_terms.specs.declared.answer.Answer.{Answer}
 use Rattle.sig_terms.specs.declared.answer.Answer.TheVariants as answer
@@ -14,18 +14,9 @@ use Rattle.sig_stream.specs.Configurations.{conf_data}
 use Rattle.sig_delivery.specs.Sets.{sets_text}
 use Rattle.sig_txroutes.specs.Documents.{confs_data, metadata, published_data, status_data}
 
--- a response without a body
-abbrev pub empty : ℕ → Response
-empty status = record { status = status; headers = []; close = false; body = [] }
-
--- a response with this body in JSON (RFC 8259, section 11)
-abbrev pub json : ℕ → List ℕ → Response
-json status body = record {
-  status = status;
-  headers = (record { name = codes "content-type"; value = codes "application/json" }) ∷ [];
-  close = false;
-  body = body;
-}
+-- the response that tells what the transmitter offers, which is told to anybody and which a cache may keep
+abbrev pub offering : Rules → Response
+offering rules = record { status = 200; headers = is_json ∷ []; close = false; body = compact_text (metadata rules) }
 
 -- a response that tells a value
 abbrev pub telling : ℕ → Data → Response
@@ -41,7 +32,7 @@ page tokens more rules = json 200 (sets_text tokens more rules.key)
 
 -- the table. What a round of pushes is handed and what is settled is told to no request
 abbrev pub reply : Answer → Rules → Response
-reply answer.Meta rules = telling 200 (metadata rules)
+reply answer.Meta rules = offering rules
 reply (answer.Made conf) rules = configured 201 conf rules
 reply (answer.Conf conf) rules = configured 200 conf rules
 reply (answer.Confs confs) rules = telling 200 (confs_data confs rules.base)

@@ -3,6 +3,7 @@ use Rattle.std.specs.Prelude.{◌≡◌, ◌≢◌, ◌↔◌, ◌≤◌, ℕ, L
 use Rattle.serde_json.specs.Data.{Data}
 use Rattle.sig_json.specs.Json.{json_of}
 use Rattle.sig_json.specs.declared.limits.TheConstants.{REQUEST_BODY_BYTES}
+use Rattle.sig_http.specs.Answering.{says_no_store}
 use Rattle.sig_http.specs.declared.message.Request.{Request}
 use Rattle.sig_http.specs.declared.message.Response.{Response}
 use Rattle.sig_subject.specs.Written.{IsProperSubject}
@@ -148,6 +149,10 @@ TellsNoSecrets = (answer : Answer) (one other : Rules) → (IsPage answer → �
 abbrev pub PagesRestOnTheKey : Type 0
 PagesRestOnTheKey = (tokens : List Token) (more : Bool) (one other : Rules) → one.key ≡ other.key
     → reply (answer.Sets tokens more) one ≡ reply (answer.Sets tokens more) other
+
+-- no cache may keep a response, but that which tells what the transmitter offers (RFC 9111, section 5.2.2.5)
+abbrev pub NoCacheKeeps : Type 0
+NoCacheKeeps = (told : Answer) (rules : Rules) → told ≢ answer.Meta → says_no_store (reply told rules) ≡ true
 
 -- a response of status 204 has no body (RFC 9110, section 15.3.5)
 abbrev pub IsFitting : Response → Type 0

@@ -2,14 +2,14 @@
 
 ghost use Rattle.std.specs.Prelude.{◌≡◌, IfOk, false};
 ghost use Rattle.serde_json.specs.View.{view};
-ghost use Rattle.serde_json.specs.Written.{has_float};
+ghost use Rattle.serde_json.specs.Written.{compact_text, has_float};
 ghost use Rattle.sig_txroutes.specs.Answers as spec;
 ghost use Rattle.sig_txroutes.specs.Documents as documents;
 
 use crate::document::{confs_value, metadata, published_value, status_value};
 use sig_delivery::{Token, write_sets};
 use sig_event::Status;
-use sig_http::{Header, HttpRefusal, Response, refusal_of};
+use sig_http::{HttpRefusal, Response, empty, header, json, refusal_of};
 use sig_json::{Bytes, Items, Memory, Text, Value, canon};
 use sig_stream::conf_json;
 use sig_terms::{Answer, Issued, Rules, StreamConf};
@@ -18,7 +18,7 @@ use std::alloc::Global;
 /// The response to an answer, which has one status: 200 for what was read, changed, published or added, 201 for a new
 /// stream, 202 for a round of pushes that may begin, 204 where nothing is told, 404 where there is no such stream, 409
 /// where it can't be so, 429 where it is too early, and 400 at `long` where a token would be too long. It leaves the link
-/// open. A page of tokens is 200, signed by the key of the rules. What a round of pushes is handed or settles is told to no
+/// open. A page of tokens is 200, signed by the key of the rules. No cache may keep it but what the transmitter offers. What a round of pushes is handed or settles is told to no
 /// request, and would be 500. Out of memory is the only error.
 pub fn response_of(alloc: Global, answer: &Answer, rules: &Rules) -> Result<Response, Memory>
     ensures { IfOk result (λ response. response ≡ spec.reply answer.now rules.now) }
@@ -35,25 +35,33 @@ pub fn response_of(alloc: Global, answer: &Answer, rules: &Rules) -> Result<Resp
             ..
         } => standing(alloc, stream, *status, reason),
         Answer::Published { store_id, tokens } => published(alloc, *store_id, tokens.as_slice()),
-        Answer::Added => Ok(empty(alloc, 200)),
-        Answer::Delivering { .. } => Ok(empty(alloc, 202)),
-        Answer::Gone | Answer::Removed | Answer::Asked { .. } => Ok(empty(alloc, 204)),
-        Answer::NotFound => Ok(empty(alloc, 404)),
-        Answer::TooMany | Answer::Conflict | Answer::Disabled => Ok(empty(alloc, 409)),
-        Answer::Early { .. } => Ok(empty(alloc, 429)),
+        Answer::Added => empty(alloc, 200),
+        Answer::Delivering { .. } => empty(alloc, 202),
+        Answer::Gone | Answer::Removed | Answer::Asked { .. } => empty(alloc, 204),
+        Answer::NotFound => empty(alloc, 404),
+        Answer::TooMany | Answer::Conflict | Answer::Disabled => empty(alloc, 409),
+        Answer::Early { .. } => empty(alloc, 429),
         Answer::Long { .. } => refusal_of(alloc, &HttpRefusal::Bad(Text::of(alloc, "long")?)),
         Answer::Sets { tokens, more } => page(alloc, tokens, *more, rules),
-        Answer::Handed { .. } | Answer::Settled { .. } => Ok(empty(alloc, 500)),
+        Answer::Handed { .. } | Answer::Settled { .. } => empty(alloc, 500),
     }
 }
 
-// What the transmitter offers.
+// What the transmitter offers, which a cache may keep.
 #[tactic(auto, using(crate::proofs::WholeDocuments::metadata_whole))]
 fn offered(alloc: Global, rules: &Rules) -> Result<Response, Memory>
-    ensures { IfOk result (λ response. response ≡ spec.telling 200 (documents.metadata rules.now)) }
+    ensures { IfOk result (λ response. response ≡ spec.offering rules.now) }
 {
     let value = metadata(alloc, rules)?;
-    telling(alloc, 200, &value)
+    let body = text_of(alloc, &value)?;
+    let mut headers = Vec::new(alloc);
+    headers.push(header(alloc, "content-type", "application/json")?)?;
+    Ok(Response {
+        status: 200,
+        headers: Items::of(headers),
+        close: false,
+        body,
+    })
 }
 
 // The configuration of a stream.
@@ -107,9 +115,17 @@ fn telling(alloc: Global, status: u16, value: &Value) -> Result<Response, Memory
     requires { has_float (view value.now) ≡ false }
     ensures { IfOk result (λ response. response ≡ spec.telling status (view value.now)) }
 {
-    let text = canon(alloc, value)?;
-    let body = Bytes::of(alloc, text.as_str().as_bytes())?;
+    let body = text_of(alloc, value)?;
     json(alloc, status, body)
+}
+
+// The text of a value in which no fraction stands.
+fn text_of(alloc: Global, value: &Value) -> Result<Bytes, Memory>
+    requires { has_float (view value.now) ≡ false }
+    ensures { IfOk result (λ text. text ≡ compact_text (view value.now)) }
+{
+    let text = canon(alloc, value)?;
+    Bytes::of(alloc, text.as_str().as_bytes())
 }
 
 // A page of tokens, signed (RFC 8936, section 2.5).
@@ -118,32 +134,4 @@ fn page(alloc: Global, tokens: &Items<Token>, more: bool, rules: &Rules) -> Resu
 {
     let body = write_sets(alloc, tokens, more, &rules.key)?;
     json(alloc, 200, body)
-}
-
-// The response with this body in JSON (RFC 8259, section 11).
-fn json(alloc: Global, status: u16, body: Bytes) -> Result<Response, Memory>
-    ensures { IfOk result (λ response. response ≡ spec.json status body) }
-{
-    let mut headers = Vec::new(alloc);
-    headers.push(Header {
-        name: Text::of(alloc, "content-type")?,
-        value: Text::of(alloc, "application/json")?,
-    })?;
-    Ok(Response {
-        status,
-        headers: Items::of(headers),
-        close: false,
-        body,
-    })
-}
-
-fn empty(alloc: Global, status: u16) -> Response
-    ensures { result ≡ spec.empty status }
-{
-    Response {
-        status,
-        headers: Items::of(Vec::new(alloc)),
-        close: false,
-        body: Bytes::new(alloc),
-    }
 }

@@ -1,6 +1,6 @@
 //! Laws over definitions: each is the contract of a function that does nothing.
 
-ghost use Rattle.sig_txroutes.specs.Laws.{BearersDecide, ClientsAskForThemselves, NoContentIsEmpty, OperatorsAskForThemselves, PagesRestOnTheKey, RequestsMakeProperCalls, RoutesExactly, TellsNoSecrets};
+ghost use Rattle.sig_txroutes.specs.Laws.{BearersDecide, ClientsAskForThemselves, NoCacheKeeps, NoContentIsEmpty, OperatorsAskForThemselves, PagesRestOnTheKey, RequestsMakeProperCalls, RoutesExactly, TellsNoSecrets};
 
 /// A request makes a call exactly where it is for a route, whose bearer, query and body it has, and that body isn't too long.
 pub fn routes_are_exact()
@@ -42,4 +42,9 @@ pub fn pages_rest_on_the_key()
 /// A response of status 204 has no body (RFC 9110, section 15.3.5).
 pub fn no_content_is_empty()
     ensures { NoContentIsEmpty }
+{}
+
+/// No cache may keep a response, but that which tells what the transmitter offers (RFC 9111, section 5.2.2.5).
+pub fn no_cache_keeps_an_answer()
+    ensures { NoCacheKeeps }
 {}

@@ -3,7 +3,7 @@ use Rattle.sig_outside.proofs.CauseLemmas.{later_rose}
 use Rattle.sig_opening.specs.Ends.{IsEndOfWatches}
 use Rattle.sig_opening.specs.declared.ending.ServeEnd.TheVariants.{SettingsFailed, Refused, NetworkFailed}
 use Rattle.sig_opening.proofs.DoorLemmas.{doors_same}
-use Rattle.sig_opening.proofs.EndLemmas.{broken_where, load_damaged, load_failed, load_ends, load_other}
+use Rattle.sig_opening.proofs.EndLemmas.{broken_where, load_damaged, load_early, load_ends, load_failed, load_missing, load_other, not_missing}
 use Rattle.sig_opening.proofs.FilesLemmas.{same_told}
 use Rattle.sig_receive.specs.Ends.{state_of}
 use Rattle.sig_receive.proofs.ServingLemmas.{by_doors, ends_watches, serves_store, stays_told}
@@ -17,6 +17,12 @@ returns-in-Ok-clause-refused g c = λ member is. subst IsEndOfWatches is (ends_w
 
 pub returns-in-Ok-clause-damaged : goal.returns-in-Ok-clause-damaged
 returns-in-Ok-clause-damaged g c = λ file at is. absurd (subst IsEndOfWatches is (ends_watches g.X.D.Disk.told _ _ _ _ _ _ _ c.serve_at-node.ensures.serves))
+
+pub returns-in-Ok-clause-no_store : goal.returns-in-Ok-clause-no_store
+returns-in-Ok-clause-no_store g c = λ is. absurd (subst IsEndOfWatches is (ends_watches g.X.D.Disk.told _ _ _ _ _ _ _ c.serve_at-node.ensures.serves))
+
+pub returns-in-Ok-clause-missing : goal.returns-in-Ok-clause-missing
+returns-in-Ok-clause-missing g c = λ lacks. absurd (not_missing _ _ c.in-Ok.ensures.found lacks)
 
 pub returns-in-Ok-clause-store_failed : goal.returns-in-Ok-clause-store_failed
 returns-in-Ok-clause-store_failed g c = λ is.
@@ -36,23 +42,32 @@ returns-in-Ok-clause-back g c =
     stays_told _ _ c.args.said _ _ _ _ _ _ _ _ _ _ c.in-Ok.ensures.opens c.serve_at-node.ensures.serves c.give_back.ensures.a c.give_back.ensures.b
 
 pub returns-clause-settings_failed : goal.returns-clause-settings_failed
-returns-clause-settings_failed g c = λ is. load_other c.in-Err.fault SettingsFailed (λ k. k) (sym c.of_load.ensures ∙ is)
+returns-clause-settings_failed g c = λ is. load_other c.in-Err.cause SettingsFailed (λ k. k) (sym c.of_unopened.ensures ∙ is)
 
 pub returns-clause-refused : goal.returns-clause-refused
-returns-clause-refused g c = λ member is. load_other c.in-Err.fault (Refused member) (λ k. k) (sym c.of_load.ensures ∙ is)
+returns-clause-refused g c = λ member is. load_other c.in-Err.cause (Refused member) (λ k. k) (sym c.of_unopened.ensures ∙ is)
 
 pub returns-clause-store_failed : goal.returns-clause-store_failed
-returns-clause-store_failed g c = λ is. load_failed state_of c.in-Err.fault _ _ _ _ c.in-Err.ensures.halts (sym c.of_load.ensures ∙ is)
+returns-clause-store_failed g c = λ is. load_failed state_of c.in-Err.cause _ _ _ _ _ c.in-Err.ensures.halts (sym c.of_unopened.ensures ∙ is)
+
+pub returns-clause-no_store : goal.returns-clause-no_store
+returns-clause-no_store g c = λ is. load_missing state_of c.in-Err.cause _ _ _ _ _ c.in-Err.ensures.halts (sym c.of_unopened.ensures ∙ is)
+
+pub returns-clause-missing : goal.returns-clause-missing
+returns-clause-missing g c = λ lacks. (
+  load_early c.in-Err.cause _ c.of_unopened.ensures,
+  record { files = c.in-Err.ensures.back; doors = doors_same _ _ _ _ c.in-Err.ensures.doors.0 c.in-Err.ensures.doors.2 },
+)
 
 pub returns-clause-damaged : goal.returns-clause-damaged
-returns-clause-damaged g c = λ file at is. load_damaged state_of c.in-Err.fault _ _ _ _ c.in-Err.ensures.halts file at (sym c.of_load.ensures ∙ is)
+returns-clause-damaged g c = λ file at is. load_damaged state_of c.in-Err.cause _ _ _ _ _ c.in-Err.ensures.halts file at (sym c.of_unopened.ensures ∙ is)
 
 pub returns-clause-network_failed : goal.returns-clause-network_failed
-returns-clause-network_failed g c = λ is. absurd (load_other c.in-Err.fault NetworkFailed (λ k. k) (sym c.of_load.ensures ∙ is))
+returns-clause-network_failed g c = λ is. absurd (load_other c.in-Err.cause NetworkFailed (λ k. k) (sym c.of_unopened.ensures ∙ is))
 
 pub returns-clause-serves : goal.returns-clause-serves
 returns-clause-serves g c =
-    load_ends c.in-Err.fault _ _ _ c.of_load.ensures (record { files = c.in-Err.ensures.back; doors = doors_same _ _ _ _ c.in-Err.ensures.doors.0 c.in-Err.ensures.doors.2 })
+    load_ends c.in-Err.cause _ _ _ c.of_unopened.ensures (record { files = c.in-Err.ensures.back; doors = doors_same _ _ _ _ c.in-Err.ensures.doors.0 c.in-Err.ensures.doors.2 })
 
 pub returns-clause-back : goal.returns-clause-back
 returns-clause-back g c = (same_told _ _ c.in-Err.ensures.back.0, same_told _ _ c.in-Err.ensures.back.1)

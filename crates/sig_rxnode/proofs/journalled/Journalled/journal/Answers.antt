@@ -14,7 +14,7 @@ pub returns-in-Ok-clause-writes : goal.returns-in-Ok-clause-writes
 returns-in-Ok-clause-writes g c =
     let D = g.D.Disk in
     let call : Result ⊤ AppendFault = Ok tt in
-    let new : Holding g.row.D.Denot = record { store = c.append.new.self; state = received c.commit.new.self; entries = c.push_reserved.new.self.items } in
+    let new : Holding g.row.D.Denot = record { store = c.append.new.self; state = received c.commit.new.self; entries = c.put.new.self.items } in
     spelled_writes D.told D.seen D.may_leave D.moment D.left_since D.stop D.short D.faults c.args.text.now c.args.turn (holding_of c.args.self.now) new c.requires.holds c.requires.whole c.requires.step
     c.in_ok-framed.field-0.framed c.in_ok-framed.ensures.made.0 call c.in-Ok.ensures.ok c.in-Ok.ensures.leaves c.in-Ok.ensures.files c.in-Ok.ensures.causes
 
@@ -22,16 +22,16 @@ pub returns-in-Ok-clause-causes : goal.returns-in-Ok-clause-causes
 returns-in-Ok-clause-causes g c =
     let D = g.D.Disk in
     let call : Result ⊤ AppendFault = Ok tt in
-    let new : Holding g.row.D.Denot = record { store = c.append.new.self; state = received c.commit.new.self; entries = c.push_reserved.new.self.items } in
+    let new : Holding g.row.D.Denot = record { store = c.append.new.self; state = received c.commit.new.self; entries = c.put.new.self.items } in
     spelled_causes D.told D.seen D.may_leave D.moment D.left_since D.stop D.short D.faults c.args.text.now c.args.turn (holding_of c.args.self.now) new c.requires.holds c.requires.whole c.requires.step
     c.in_ok-framed.field-0.framed c.in_ok-framed.ensures.made.0 call c.in-Ok.ensures.ok c.in-Ok.ensures.leaves c.in-Ok.ensures.files c.in-Ok.ensures.causes
 
 pub returns-in-Ok-clause-holds : goal.returns-in-Ok-clause-holds
 returns-in-Ok-clause-holds g c =
     let D = g.D.Disk in
-    let new : Holding g.row.D.Denot = record { store = c.append.new.self; state = received c.commit.new.self; entries = c.push_reserved.new.self.items } in
+    let new : Holding g.row.D.Denot = record { store = c.append.new.self; state = received c.commit.new.self; entries = c.put.new.self.items } in
     let entries : new.entries ≡ c.args.self.now.entries.items ++ c.args.text.now ∷ [] =
-    c.push_reserved.ensures.items ∙ ap (λ (l : List (List ℕ)). l ++ c.in_ok-framed.field-0.entry ∷ []) c.in_ok-framed.ensures.same ∙ ap (λ (t : List ℕ). c.args.self.now.entries.items ++ t ∷ []) c.in_ok-framed.ensures.made.1 in
+    c.put.ensures ∙ ap (λ (l : List (List ℕ)). l ++ c.in_ok-framed.field-0.entry ∷ []) c.in_ok-framed.ensures.same ∙ ap (λ (t : List ℕ). c.args.self.now.entries.items ++ t ∷ []) c.in_ok-framed.ensures.made.1 in
     holds_after D.told D.seen D.may_leave D.moment D.left_since D.stop D.short D.faults c.args.text.now c.args.turn (holding_of c.args.self.now) new c.requires.holds c.requires.whole c.requires.step
     (subst (λ (p : List ℕ). HasRecord D.told D.seen D.may_leave c.args.self.now.store c.append.new.self p) c.in_ok-framed.ensures.made.0 c.in-Ok.ensures.ok) c.in-Ok.ensures.files
     (c.commit.ensures ∙ c.requires.makes) entries

@@ -1,0 +1,4 @@
+pub mod RepeatLemmas
+pub mod ChangeLemmas
+pub mod AuthorityLemmas
+pub mod AudienceLemmas
