@@ -20,7 +20,7 @@ use Rattle.sig_txnode.specs.declared.turn.Turn.{Turn}
 use Rattle.sig_round.specs.Rounds.{tokens_in}
 use Rattle.sig_round.specs.Turns.{Adds, AddsTurnOf, Asker}
 use Rattle.sig_round.proofs.Grown.{adds_none, adds_on}
-use Rattle.sig_tick.specs.Bringing.{Brought, are_settled, attempt_of}
+use Rattle.sig_tick.specs.Bringing.{Brings, Brought, are_settled, attempt_of}
 use Rattle.sig_tick.specs.Listing.{ended}
 use Rattle.sig_tick.specs.Trying.{AreTried, IsIdle, Noted, Tried, TriedDue, TriedHanded, TriedOne, Tries, TriesHanded, TriesTokens, TriesWhere, is_due}
 use Rattle.sig_tick.proofs.AskLemmas.{ok_no_err}
@@ -38,11 +38,12 @@ room_notes kept kept' log stays is stream = stays stream ∙ is stream
 
 -- ---- one attempt
 
-pub noted_by : (rules : Rules) (by : Asker) (stream : List ℕ) (tokens : List Token) (kept kept' : Kept) (a b : SideView) (x y : List Turn) (k l : Option TakerTold) (end : Result ⊤ NodeFault) (at : ℕ) (good : Bool)
-    → Brought rules by tokens a b x y k l end → at ≡ time_used by.now → good ≡ are_settled (length tokens) (drop (length x) y)
+pub noted_by : (rules : Rules) (by : Asker) (stream : List ℕ) (tokens : List Token) (kept kept' : Kept) (a between b : SideView) (x y : List Turn) (k l : Option TakerTold) (end : Result ⊤ NodeFault) (at : ℕ) (good : Bool)
+    → between ≡ a → Brought rules by tokens between b x y k l end → at ≡ time_used by.now → good ≡ are_settled (length tokens) (drop (length x) y)
     → ((log : List Attempt) → IsLogged kept log → IsLogged kept' (log ++ record { stream = stream; at = at; tokens = length tokens; good = good } ∷ []))
     → Noted rules by stream tokens kept kept' a b x y k l (record { stream = stream; at = at; tokens = length tokens; good = good }) end
-noted_by rules by stream tokens kept kept' a b x y k l end at good p is settled notes =
+noted_by rules by stream tokens kept kept' a between b x y k l end at good same p' is settled notes =
+    let p = subst (λ (v : SideView). Brought rules by tokens v b x y k l end) same p' in
     let more : drop (length x) y ≡ p.more = ap (drop (length x)) p.adds.log ∙ drop-append_seam x p.more in
     record {
       more = p.more;
@@ -107,19 +108,24 @@ tokens_brought : (rules : Rules) (by : Asker) (stream : List ℕ) (tokens : List
 tokens_brought rules by stream [] a b more attempt end some is p = absurd (some refl)
 tokens_brought rules by stream (t ∷ tokens) a b more attempt end some is p = (is, p)
 
-pub handed_brought : (rules : Rules) (by : Asker) (stream : List ℕ) (handed : Result Answer NodeFault) (tokens : List Token) (kept kept' kept'' : Kept) (a b : SideView) (x y : List Turn) (k l : Option TakerTold) (u : ⊤) (attempt : Attempt) (end : Result ⊤ NodeFault)
-    → ◌≡◌ {A = Result ⊤ NodeFault} (Ok u) (ended handed) → tokens ≡ tokens_in handed → (tokens ≡ [] → ⊥) → StaysLogged kept kept' → Noted rules by stream tokens kept' kept'' a b x y k l attempt end
+pub handed_brought : (rules : Rules) (by : Asker) (stream name : List ℕ) (handed : Result Answer NodeFault) (tokens slice : List Token) (kept kept' kept'' : Kept) (a b : SideView) (x y : List Turn) (k l : Option TakerTold) (u : ⊤) (attempt : Attempt) (end : Result ⊤ NodeFault)
+    → ◌≡◌ {A = Result ⊤ NodeFault} (Ok u) (ended handed) → tokens ≡ tokens_in handed → (tokens ≡ [] → ⊥) → StaysLogged kept kept' → name ≡ stream → slice ≡ tokens
+    → Noted rules by name slice kept' kept'' a b x y k l attempt end
     → TriedHanded rules by stream handed kept kept'' a b x y k l (Some attempt) end
-handed_brought rules by stream handed tokens kept kept' kept'' a b x y k l u attempt end is these some stays p = record {
-  more = p.more;
-  adds = p.adds;
-  notes = λ log logged. p.notes log (room_notes kept kept' log stays logged);
-  tries = tries handed is these;
-}
+handed_brought rules by stream name handed tokens slice kept kept' kept'' a b x y k l u attempt end is these some stays named sliced q =
+    let p = subst (λ (ts : List Token). Noted rules by stream ts kept' kept'' a b x y k l attempt end) sliced
+    (subst (λ (n : List ℕ). Noted rules by n slice kept' kept'' a b x y k l attempt end) named q) in
+    record {
+      more = p.more;
+      adds = p.adds;
+      notes = λ log logged. p.notes log (room_notes kept kept' log stays logged);
+      tries = tries_by p.more p.is p.brings handed is these;
+    }
   where
-    tries : (r : Result Answer NodeFault) → ◌≡◌ {A = Result ⊤ NodeFault} (Ok u) (ended r) → tokens ≡ tokens_in r → TriesHanded rules by stream r a b p.more (Some attempt) end
-    tries (Ok answer) h e = subst (λ (ts : List Token). TriesTokens rules by stream ts a b p.more (Some attempt) end) e (tokens_brought rules by stream tokens a b p.more attempt end some p.is p.brings)
-    tries (Err f) h e = absurd (ok_no_err u f h)
+    tries_by : (more : List Turn) → attempt ≡ attempt_of stream by tokens more → Brings rules by tokens a b more end
+        → (r : Result Answer NodeFault) → ◌≡◌ {A = Result ⊤ NodeFault} (Ok u) (ended r) → tokens ≡ tokens_in r → TriesHanded rules by stream r a b more (Some attempt) end
+    tries_by more of brings (Ok answer) h e = subst (λ (ts : List Token). TriesTokens rules by stream ts a b more (Some attempt) end) e (tokens_brought rules by stream tokens a b more attempt end some of brings)
+    tries_by more of brings (Err f) h e = absurd (ok_no_err u f h)
 
 -- ---- a stream that is due
 

@@ -1,6 +1,7 @@
 //! How an attempt brings the tokens that it was handed.
 
 ghost use Rattle.std.specs.Prelude.{◌≡◌};
+ghost use Rattle.std.specs.List.{list_all};
 ghost use Rattle.sig_tick.specs.Bringing as spec;
 ghost use Rattle.sig_tick.specs.Bringing.{Brought};
 
@@ -58,7 +59,14 @@ fn end_by(fault: PushFault) -> Result<(), NodeFault>
 pub fn are_settled(count: usize, turns: &[Turn]) -> bool
     ensures { result ≡ spec.are_settled count turns.now }
 {
-    turns.len() == count && turns.iter().all(is_settling)
+    turns.len() == count && all_settling(turns)
+}
+
+// Whether each of these turns settled its token.
+fn all_settling(turns: &[Turn]) -> bool
+    ensures { result ≡ list_all spec.is_settling turns.now }
+{
+    turns.iter().all(|turn| is_settling(turn))
 }
 
 // Whether a turn settled its token.

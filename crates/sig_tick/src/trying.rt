@@ -136,7 +136,7 @@ fn try_handed<R: Wait, K: Taker, S: Side>(
     }
 }
 
-// Brings these tokens of a stream, and notes the attempt, for whose note there is room.
+// Brings these tokens of a stream, for which the side has a bound in time, and notes the attempt, for whose note there is room.
 fn bring_noted<R: Wait, K: Taker, S: Side>(
     alloc: Global,
     rt: &R,
@@ -156,6 +156,7 @@ fn bring_noted<R: Wait, K: Taker, S: Side>(
     ensures now { log.new.now ≡ log.old.now }
 {
     let before = log.turns.len();
+    side.begin_round();
     let end = bring(alloc, rt, taker, rules, tokens, side, log);
     let attempt = Attempt {
         stream,

@@ -1,4 +1,7 @@
-use Rattle.std.proofs.Common.{rules, ◌≡◌, ◌∙◌, Err, None, Some}
+use Rattle.std.proofs.Common.{rules, ◌≡◌, ◌∙◌, sym, refl, [], Err, None, Some, arith}
+use Rattle.std.proofs.lemmas.Grind.{common_steps}
+use Rattle.sig_round.specs.Rounds.{tokens_in}
+use Rattle.sig_tick.proofs.Collecting.{none_of}
 use Rattle.sig_journal.specs.declared.node_fault.NodeFault.TheVariants.{Memory}
 use Rattle.sig_tick.proofs.TryLemmas.{handed_brought, handed_nothing, handed_refused, handed_starved, same_kept}
 use Rattle.sig_tick.proofs.trying.try_handed.Goals as goal
@@ -26,3 +29,19 @@ returns-in_err-make_room-clause-tried g c =
     let is : c.from_residual-in_err-make_room.result ≡ Err Memory = search rules in
     rw is (λ earlier turn e. (None, tt, handed_starved c.args.rules.now _ c.args.stream.now turn.result _ _ _ _ _ _
     (c.in_ok-last_ended.ensures earlier turn (c.as_slice.ensures.value ∙ e)) c.in_err-make_room.ensures.same))
+
+pub returns-then-is_empty-clause-tried : goal.returns-then-is_empty-clause-tried
+returns-then-is_empty-clause-tried g c =
+    let none : c.in_ok-tokens.tokens ≡ [] = first_of (search rules, none_of _ (search rules), none_of _ (omega arith), grind (arith, common_steps)) in
+    λ earlier turn e. (None, refl, handed_nothing c.args.rules.now _ c.args.stream.now turn.result _ _ _ _ _ _
+    (c.in_ok-last_ended.ensures earlier turn (c.as_slice.ensures.value ∙ e))
+    (sym (c.in_ok-tokens.ensures earlier turn (c.as_slice-2.ensures.value ∙ e)) ∙ none))
+
+pub returns-clause-tried : goal.returns-clause-tried
+returns-clause-tried g c =
+    let some : c.in_ok-tokens.tokens ≡ [] → ⊥ = first_of (search rules, λ h. absurd (omega (arith, h)), λ h. grind (arith, common_steps, h)) in
+    let t = c.in-Err.ensures.noted in
+    λ earlier turn e. (Some t.0, tt, handed_brought c.args.rules.now _ c.args.stream.now _ turn.result c.in_ok-tokens.tokens _ _ _ _ _ _ _ _ _ _ _ t.0 _
+    (c.in_ok-last_ended.ensures earlier turn (c.as_slice.ensures.value ∙ e))
+    (c.in_ok-tokens.ensures earlier turn (c.as_slice-2.ensures.value ∙ e))
+    some c.in_ok-make_room.ensures.same c.in_ok-name.ensures c.as_slice-4.ensures t.2)
