@@ -1,5 +1,6 @@
-use Rattle.std.proofs.Common.{rules, ◌≡◌, ◌<◌, ◌≤◌, ◌∙◌, ◌++◌, [], refl, length, Err, arith}
+use Rattle.std.proofs.Common.{rules, ◌≡◌, ◌<◌, ◌≤◌, ◌∙◌, ◌++◌, [], List, Option, ap, refl, length, Err, arith}
 use Rattle.std.specs.Option.{option_to_list}
+use Rattle.sig_courier.specs.declared.attempt.Attempt.{Attempt}
 use Rattle.sig_journal.specs.declared.node_fault.NodeFault.TheVariants.{Memory}
 use Rattle.sig_tick.proofs.TryLemmas.{tries_from, tries_next, tries_no_further, tries_starved, tries_to_the_end}
 use Rattle.sig_tick.proofs.trying.try_all.Goals as goal
@@ -30,7 +31,9 @@ loop-stream-preserved g c =
     let t = c.in_ok-attempt.ensures.tried in
     record {
       goes_on = tries_next c.args.rules.now _ _ _ _ c.args.streams.now c.loop-stream.stream-index c.stream-item.result _ _ _ _ _ _ _ _ _ _ _ _ c.loop-stream.attempts.items _ t.0 _
-          (record { below = h; is = c.stream-item.is; link_same = c.loop-stream.invariant.link; time_same = c.loop-stream.invariant.now; on = c.loop-stream.invariant.goes_on }) t.2 ?;
+          (record { below = h; is = c.stream-item.is; link_same = c.loop-stream.invariant.link; time_same = c.loop-stream.invariant.now; on = c.loop-stream.invariant.goes_on }) t.2
+          (c.keep.ensures ∙ ap (λ (l : List Attempt). l ++ option_to_list c.in_ok-attempt.attempt) c.in_ok-reserve.ensures.items
+          ∙ ap (λ (o : Option Attempt). c.loop-stream.attempts.items ++ option_to_list o) t.1);
       link = c.in_ok-attempt.ensures.link ∙ c.loop-stream.invariant.link;
       now = c.in_ok-attempt.ensures.now ∙ c.loop-stream.invariant.now;
     }

@@ -1,4 +1,4 @@
-use Rattle.std.proofs.Common.{rules, ◌≡◌, ◌∙◌, sym, refl, [], Err, None, Some, arith}
+use Rattle.std.proofs.Common.{rules, ◌≡◌, ◌∙◌, ap, sym, refl, [], length, Err, None, Some, arith}
 use Rattle.std.proofs.lemmas.Grind.{common_steps}
 use Rattle.sig_round.specs.Rounds.{tokens_in}
 use Rattle.sig_tick.proofs.Collecting.{none_of}
@@ -32,14 +32,17 @@ returns-in_err-make_room-clause-tried g c =
 
 pub returns-then-is_empty-clause-tried : goal.returns-then-is_empty-clause-tried
 returns-then-is_empty-clause-tried g c =
-    let none : c.in_ok-tokens.tokens ≡ [] = first_of (search rules, none_of _ (search rules), none_of _ (omega arith), grind (arith, common_steps)) in
+    let empty : length c.as_slice-3.result.now ≡ 0 = first_of (search rules, omega arith, grind (arith, common_steps)) in
+    let none : c.in_ok-tokens.tokens ≡ [] = sym c.as_slice-3.ensures ∙ none_of c.as_slice-3.result.now empty in
     λ earlier turn e. (None, refl, handed_nothing c.args.rules.now _ c.args.stream.now turn.result _ _ _ _ _ _
     (c.in_ok-last_ended.ensures earlier turn (c.as_slice.ensures.value ∙ e))
     (sym (c.in_ok-tokens.ensures earlier turn (c.as_slice-2.ensures.value ∙ e)) ∙ none))
 
 pub returns-clause-tried : goal.returns-clause-tried
 returns-clause-tried g c =
-    let some : c.in_ok-tokens.tokens ≡ [] → ⊥ = first_of (search rules, λ h. absurd (omega (arith, h)), λ h. grind (arith, common_steps, h)) in
+    let sliced : c.as_slice-3.result.now ≡ c.in_ok-tokens.tokens = c.as_slice-3.ensures in
+    let some : c.in_ok-tokens.tokens ≡ [] → ⊥ =
+    λ h. let e : length c.as_slice-3.result.now ≡ 0 = ap length (sliced ∙ h) in first_of (omega arith, search rules, grind (arith, common_steps)) in
     let t = c.in-Err.ensures.noted in
     λ earlier turn e. (Some t.0, tt, handed_brought c.args.rules.now _ c.args.stream.now _ turn.result c.in_ok-tokens.tokens _ _ _ _ _ _ _ _ _ _ _ t.0 _
     (c.in_ok-last_ended.ensures earlier turn (c.as_slice.ensures.value ∙ e))
