@@ -157,7 +157,10 @@ fn a_receiver_that_is_away_is_tried_after_its_waits(rt: HostRuntime) -> Result<(
     let links = Vec::new(rt.alloc());
     let attempts = attempts_at(rt.alloc(), &rt, &times, links)?;
     assert!(rt;
-        are_late_at(attempts.as_slice(), &[100, 130, 190, 310, 550, 1_030, 1_990, 3_910, 7_510])
+        are_late_at(
+            attempts.as_slice(),
+            &[100, 130, 190, 310, 550, 1_030, 1_990, 3_910, 7_510]
+        )
     );
     Ok(())
 }

@@ -50,7 +50,6 @@ refused_last (Err g) f h = cc
 
 -- ---- the end
 
-
 stops_on : (turn : Turn) (first more : List Turn) (pushed : Result ⊤ PushFault) (left : List Token) (end : Result ⊤ NodeFault)
     → first ≡ turn ∷ [] → is_ok turn.result ≡ true → Stops pushed left more end → Stops pushed left (first ++ more) end
 stops_on turn first more pushed left end is answered s = subst (λ (l : List Turn). Stops pushed left (l ++ more) end) (sym is) (by_end pushed end s)

@@ -21,6 +21,6 @@ mod over_node;
 mod ticking;
 mod trying;
 
-pub use sig_journal::NodeFault as CourierFault;
 pub use over_node::tick;
+pub use sig_journal::NodeFault as CourierFault;
 pub use ticking::tick_over;

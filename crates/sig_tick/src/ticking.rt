@@ -33,6 +33,15 @@ pub fn tick_over<R: Wait, K: Taker, S: Side>(
     };
     list(alloc, rt, taker, rules, &mut log)?;
     let streams = pushes_listed(alloc, log.turns.as_slice())?;
-    let attempts = try_all(alloc, rt, taker, rules, streams.as_slice(), schedule, side, &mut log)?;
+    let attempts = try_all(
+        alloc,
+        rt,
+        taker,
+        rules,
+        streams.as_slice(),
+        schedule,
+        side,
+        &mut log,
+    )?;
     Ok(Items::of(attempts))
 }

@@ -130,7 +130,17 @@ fn try_handed<R: Wait, K: Taker, S: Side>(
     }
     let name = stream.copy(alloc)?;
     schedule.make_room(stream)?;
-    match bring_noted(alloc, rt, taker, rules, name, tokens.as_slice(), schedule, side, log) {
+    match bring_noted(
+        alloc,
+        rt,
+        taker,
+        rules,
+        name,
+        tokens.as_slice(),
+        schedule,
+        side,
+        log,
+    ) {
         Ok(attempt) => Ok(Some(attempt)),
         Err(fault) => Err(fault),
     }

@@ -22,8 +22,12 @@ returns-in_err-attempt-clause-tried g c =
     let is : c.from_residual-in_err-attempt.result ≡ Err c.in_err-attempt.field-0.0 = search rules in
     let h : c.loop-stream.stream-index < length c.args.streams.now = omega arith in
     let t = c.in_err-attempt.ensures.tried in
-    rw is (c.loop-stream.attempts.items ++ option_to_list t.0, tt, tries_no_further c.args.rules.now _ _ _ _ c.args.streams.now c.loop-stream.stream-index c.stream-item.result _ _ _ _ _ _ _ _ _ _ _ _ c.loop-stream.attempts.items t.0 c.in_err-attempt.field-0.0
-    (record { below = h; is = c.stream-item.is; link_same = c.loop-stream.invariant.link; time_same = c.loop-stream.invariant.now; on = c.loop-stream.invariant.goes_on }) t.2)
+    rw is (
+      c.loop-stream.attempts.items ++ option_to_list t.0,
+      tt,
+      tries_no_further c.args.rules.now _ _ _ _ c.args.streams.now c.loop-stream.stream-index c.stream-item.result _ _ _ _ _ _ _ _ _ _ _ _ c.loop-stream.attempts.items t.0 c.in_err-attempt.field-0.0
+          (record { below = h; is = c.stream-item.is; link_same = c.loop-stream.invariant.link; time_same = c.loop-stream.invariant.now; on = c.loop-stream.invariant.goes_on }) t.2,
+    )
 
 pub loop-stream-preserved : goal.loop-stream-preserved
 loop-stream-preserved g c =
