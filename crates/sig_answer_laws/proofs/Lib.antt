@@ -1,0 +1,6 @@
+pub mod TokenLemmas
+pub mod SubjectLemmas
+pub mod StreamLemmas
+pub mod RefusalLemmas
+pub mod GivenLemmas
+pub mod SaysLemmas

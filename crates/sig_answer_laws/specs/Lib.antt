@@ -1,0 +1,4 @@
+pub mod Tokens
+pub mod Given
+pub mod Refused
+pub mod Laws
