@@ -8,6 +8,8 @@
 #[cfg(test)]
 mod copies;
 #[cfg(test)]
+mod courier;
+#[cfg(test)]
 mod receiver;
 #[cfg(test)]
 mod stores;

@@ -33,8 +33,8 @@ pub fn deliver_all<R: Wait, K: Taker, S: Side>(
     Ok(())
 }
 
-// Pushes a token, and settles it by what its push settles.
-fn deliver<R: Wait, K: Taker, S: Side>(
+/// Pushes a token, and settles it by what its push settles, in a turn.
+pub fn deliver<R: Wait, K: Taker, S: Side>(
     alloc: Global,
     rt: &R,
     taker: &mut K,

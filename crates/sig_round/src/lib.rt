@@ -20,5 +20,6 @@ mod round;
 mod threads;
 
 pub use asking::turn_of;
+pub use delivering::deliver;
 pub use log::TurnLog;
-pub use round::push_rounds;
+pub use round::{hand, push_rounds, tokens_handed};

@@ -99,8 +99,8 @@ fn push_offered<R: Wait, K: Taker, S: Side>(
     }
 }
 
-// Asks for what a stream offers, in a turn.
-fn hand<R: Wait, K: Taker>(
+/// Asks for what a stream offers, in a turn.
+pub fn hand<R: Wait, K: Taker>(
     alloc: Global,
     rt: &R,
     taker: &mut K,
@@ -148,8 +148,8 @@ fn deliver_handed<R: Wait, K: Taker, S: Side>(
     }
 }
 
-// Copies of the tokens that the last turn handed.
-fn tokens_handed(alloc: Global, turns: &[Turn]) -> Result<Items<Token>, Memory>
+/// Copies of the tokens that the last of these turns handed.
+pub fn tokens_handed(alloc: Global, turns: &[Turn]) -> Result<Items<Token>, Memory>
     ensures { IfOk result (λ tokens. (earlier : List Turn) (turn : Turn) → turns.now ≡ earlier ++ turn ∷ [] → tokens ≡ handed.tokens_in turn.result) }
 {
     match turns.last() {

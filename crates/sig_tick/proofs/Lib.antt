@@ -1,0 +1,6 @@
+pub mod Collecting
+pub mod AskLemmas
+pub mod BringLemmas
+pub mod TryLemmas
+pub mod TickLemmas
+pub mod OverNodeLemmas

@@ -1,0 +1,5 @@
+pub mod Listing
+pub mod Bringing
+pub mod Trying
+pub mod Ticking
+pub mod OverNode
