@@ -4,3 +4,4 @@ pub mod StreamLemmas
 pub mod RefusalLemmas
 pub mod GivenLemmas
 pub mod SaysLemmas
+pub mod ExactLemmas

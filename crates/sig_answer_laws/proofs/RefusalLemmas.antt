@@ -50,7 +50,7 @@ found_says c tell None missing each known = λ low. record { same = refl; missin
 found_says c tell (Some s) missing each known = each s refl known
 
 -- the fact of a call makes tokens, of which one is too long
-long_says : (c : Case) (f : Fact) → IsFactOf c.call c.now f → is_long (made_by c.sum.parts f) ≡ true
+long_says : (c : Case) (f : Fact) → IsFactOf c.sum c.call c.now f → is_long (made_by c.sum.parts f) ≡ true
     → SaysLong c.sum c.call c.now None (largest (made_by c.sum.parts f))
 long_says c f is long =
     let ts : List Made = made_by c.sum.parts f in
@@ -59,7 +59,7 @@ long_says c f is long =
     record { fact = f; token = t; same = refl; is = is; made = there; bytes = size; most = none_larger ts; long = above }
 
 -- a fact that makes tokens
-pub making_says : (c : Case) (a : Answer) (f : Fact) → IsFactOf c.call c.now f
+pub making_says : (c : Case) (a : Answer) (f : Fact) → IsFactOf c.sum c.call c.now f
     → (IsKnown c.sum (record { answer = a; change = Some f; over = list_any is_past (made_by c.sum.parts f) })
     → Tells c (record { answer = a; change = Some f; over = list_any is_past (made_by c.sum.parts f) }))
     → IsKnown c.sum (making c.sum.parts a f) → Tells c (making c.sum.parts a f)

@@ -1,8 +1,8 @@
 -- What each call is told is so: a line for each.
-use Rattle.std.proofs.Common.{◌≡◌, ◌∙◌, ap, sym, subst, ℕ, ◌+◌, List, [], ◌∷◌, map, Bool, true, false, Option, Some, None, IfSome, if◌then◌else◌, refl, inl, inr}
+use Rattle.std.proofs.Common.{◌≡◌, ◌∙◌, ap, sym, subst, ℕ, ◌+◌, ◌≤◌, List, [], ◌∷◌, map, Bool, true, false, Option, Some, None, IfSome, if◌then◌else◌, refl, inl, inr}
 use Rattle.std.specs.Prelude.{nat_le, nat_lt}
 use Rattle.std.specs.List.{list_any}
-use Rattle.std.proofs.lemmas.Bool.{leb-false, leb-true, ltb-true}
+use Rattle.std.proofs.lemmas.Bool.{both_ways, leb-false, leb-true, ltb-false, ltb-true}
 use Rattle.sig_json.specs.declared.limits.TheConstants.{STREAMS_PER_CLIENT}
 use Rattle.sig_event.specs.News.{is_same_news}
 use Rattle.sig_event.specs.declared.news.News.{News}
@@ -49,7 +49,7 @@ use Rattle.sig_calls.proofs.SpeakingLemmas.{answers_true}
 use Rattle.sig_call_laws.proofs.AuthorityLemmas.{IsStreamOf, stream_of_client}
 use Rattle.sig_call_laws.proofs.RepeatLemmas.{new_last, same_itself}
 use Rattle.sig_answer_laws.specs.Laws.{IsTrueAnswer, Says}
-use Rattle.sig_answer_laws.specs.Refused.{HasNoneToPoll}
+use Rattle.sig_answer_laws.specs.Refused.{IsLate}
 use Rattle.sig_answer_laws.specs.Tokens.{after}
 use Rattle.sig_answer_laws.proofs.GivenLemmas.{handed_says, issued_owed, sets_say, settled_says}
 use Rattle.sig_answer_laws.proofs.RefusalLemmas.{Case, IsKnown, Tells, either_says, found_says, making_says}
@@ -107,9 +107,9 @@ conf_client sum client stream s conf own kept = ap client_in (kept ∙ own_name 
 -- ---- verifications
 
 asked_says : (rules : Rules) (sum : Sum) (client stream : List ℕ) (state : Option (List ℕ)) (now : ℕ) (s : Stream) (o : Option ℕ) → IsWhole sum
-    → client_stream client stream sum.parts.streams ≡ Some s → s.asked ≡ o → IsKnown sum (asked_after sum.parts stream state now s o)
+    → client_stream client stream sum.parts.streams ≡ Some s → (s.status ≡ status.Disabled → ⊥) → s.asked ≡ o → IsKnown sum (asked_after sum.parts stream state now s o)
     → Tells (case rules sum (Verify client stream state) now) (asked_after sum.parts stream state now s o)
-asked_says rules sum client stream state now s o whole is last = by o last
+asked_says rules sum client stream state now s o whole is on last = by o last
   where
     c : Case
     c = case rules sum (Verify client stream state) now
@@ -120,8 +120,8 @@ asked_says rules sum client stream state now s o whole is last = by o last
     own : IsStreamOf sum client stream s
     own = stream_of_client sum client stream s whole is
 
-    told : IsKnown sum (making sum.parts (answer.Asked stream (s.made + 1)) f) → Tells c (making sum.parts (answer.Asked stream (s.made + 1)) f)
-    told known = making_says c (answer.Asked stream (s.made + 1)) f refl
+    told : IsLate s now → IsKnown sum (making sum.parts (answer.Asked stream (s.made + 1)) f) → Tells c (making sum.parts (answer.Asked stream (s.made + 1)) f)
+    told late known = making_says c (answer.Asked stream (s.made + 1)) f (s, is, on, late, refl)
         (λ k low. record {
           client = client;
           state = state;
@@ -131,7 +131,7 @@ asked_says rules sum client stream state now s o whole is last = by o last
         }) known
 
     by : (o : Option ℕ) → s.asked ≡ o → IsKnown sum (asked_after sum.parts stream state now s o) → Tells c (asked_after sum.parts stream state now s o)
-    by None never known = told known
+    by None never known = told (λ when some. cc (sym never ∙ some)) known
     by (Some asked) last known =
         either_says c (nat_lt now (next_time asked s.conf.interval)) (only (answer.Early (next_time asked s.conf.interval)))
         (making sum.parts (answer.Asked stream (s.made + 1)) f)
@@ -144,11 +144,21 @@ asked_says rules sum client stream state now s o whole is last = by o last
           same = refl;
           asked = refl;
           found = is;
+          on = on;
           before = last;
           next = refl;
           early = ltb-true now (next_time asked s.conf.interval) early;
         })
-        (λ late k. told k) known
+        (λ late k. told (λ when some.
+        let both : Some asked ≡ Some when = sym last ∙ some in
+        let same : asked ≡ when = cc in
+        let low : next_time asked s.conf.interval ≤ now = ltb-false now (next_time asked s.conf.interval) late in
+        subst (λ n. next_time n s.conf.interval ≤ now) same low) k) known
+
+isnt_disabled : (s : Status) → is_disabled s ≡ false → s ≡ status.Disabled → ⊥
+isnt_disabled status.Enabled h is = cc is
+isnt_disabled status.Paused h is = cc is
+isnt_disabled status.Disabled h is = cc h
 
 disabled_is : (s : Status) → is_disabled s ≡ true → s ≡ status.Disabled
 disabled_is status.Enabled h = cc h
@@ -161,7 +171,7 @@ published_says : (rules : Rules) (sum : Sum) (id : List ℕ) (n : News) (now : �
     → IsKnown sum (published_after sum.parts id n now o) → Tells (case rules sum (Publish id n) now) (published_after sum.parts id n now o)
 published_says rules sum id n now None whole none known =
     let f : Fact = fact.Published id n now in
-    making_says (case rules sum (Publish id n) now) (answer.Published sum.parts.store_id (map issued_of (made_by sum.parts f))) f refl
+    making_says (case rules sum (Publish id n) now) (answer.Published sum.parts.store_id (map issued_of (made_by sum.parts f))) f (none, refl)
     (λ k low. record {
       id = id;
       news = n;
@@ -180,6 +190,11 @@ published_says rules sum id n now (Some p) whole there known =
 
 -- ---- the operator's status
 
+pub status_itself : (s : Status) → status_eq s s ≡ true
+status_itself status.Enabled = refl
+status_itself status.Paused = refl
+status_itself status.Disabled = refl
+
 operated_says : (rules : Rules) (sum : Sum) (stream : List ℕ) (new : Status) (reason : Option (List ℕ)) (now : ℕ) (s : Stream) → IsWhole sum
     → stream_named stream sum.parts.streams ≡ Some s → IsKnown sum (operated sum.parts stream new reason now s)
     → Tells (case rules sum (OperatorStatus stream new reason) now) (operated sum.parts stream new reason now s)
@@ -189,7 +204,7 @@ operated_says rules sum stream new reason now s whole is known =
     let given : Answer = answer.State stream new reason (Some (s.made + 1)) in
     either_says c (status_eq s.status new) (only (state_of stream s)) (making sum.parts given f)
     (λ same k low. record { stands = k.true_of low; told = tt })
-    (λ other k. making_says c given f refl
+    (λ other k. making_says c given f (s, is, (λ same. both_ways (status_eq s.status new) other (subst (λ n. status_eq s.status n ≡ true) same (status_itself s.status))), refl)
     (λ m low. record {
       stands = m.true_of low;
       told = told_owed sum f stream s (updated_news stream new reason) whole refl is
@@ -281,7 +296,7 @@ says rules sum (Verify client stream state) now called whole known =
       found = is;
       disabled = disabled_is s.status off;
     })
-    (λ on k. asked_says rules sum client stream state now s s.asked whole is refl k)) known
+    (λ on k. asked_says rules sum client stream state now s s.asked whole is (isnt_disabled s.status on) refl k)) known
 says rules sum (Poll client stream ask) now called whole known =
     found_says (case rules sum (Poll client stream ask) now) (polled sum stream ask) (client_stream client stream sum.parts.streams) (λ none. inl none)
     (λ s is. either_says (case rules sum (Poll client stream ask) now) (is_push s.conf.delivery) (only answer.NotFound)

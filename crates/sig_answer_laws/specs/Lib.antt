@@ -2,3 +2,4 @@ pub mod Tokens
 pub mod Given
 pub mod Refused
 pub mod Laws
+pub mod Exact

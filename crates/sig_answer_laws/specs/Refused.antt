@@ -100,30 +100,38 @@ pub record SaysEarly (sum : Sum) (call : Call) (now : ℕ) (change : Option Fact
   pub same : change ≡ None
   pub asked : call ≡ Verify client stream state
   pub found : client_stream client stream sum.parts.streams ≡ Some own
+  pub on : (own.status ≡ status.Disabled) → ⊥
   pub before : own.asked ≡ Some last
   pub next : until ≡ min (last + own.conf.interval) (2 ^ 64 - 1)
   pub early : now < until
 
--- the fact that makes the tokens of a call
-abbrev pub IsFactOf : Call → ℕ → Fact → Type 0
-IsFactOf Metadata now f = ⊥
-IsFactOf (Create client want) now f = ⊥
-IsFactOf (ReadAll client) now f = ⊥
-IsFactOf (Read client stream) now f = ⊥
-IsFactOf (Patch client stream want) now f = ⊥
-IsFactOf (Put client stream want) now f = ⊥
-IsFactOf (Delete client stream) now f = ⊥
-IsFactOf (GetStatus client stream) now f = ⊥
-IsFactOf (SetStatus client stream status reason) now f = ⊥
-IsFactOf (Add client stream subject) now f = ⊥
-IsFactOf (Remove client stream subject) now f = ⊥
-IsFactOf (Verify client stream state) now f = f ≡ fact.Asked stream state now
-IsFactOf (Poll client stream ask) now f = ⊥
-IsFactOf (Publish id news) now f = f ≡ fact.Published id news now
-IsFactOf (OperatorStatus stream status reason) now f = f ≡ fact.StatusSet stream status reason true now
-IsFactOf (Deliver stream) now f = ⊥
-IsFactOf (Hand streams) now f = ⊥
-IsFactOf (Settle stream number outcome) now f = ⊥
+-- a verification isn't asked too soon
+abbrev pub IsLate : Stream → ℕ → Type 0
+IsLate own now = (last : ℕ) → own.asked ≡ Some last → min (last + own.conf.interval) (2 ^ 64 - 1) ≤ now
+
+-- the fact by which a call makes tokens, where nothing else refuses it
+abbrev pub IsFactOf : Sum → Call → ℕ → Fact → Type 0
+IsFactOf sum Metadata now f = ⊥
+IsFactOf sum (Create client want) now f = ⊥
+IsFactOf sum (ReadAll client) now f = ⊥
+IsFactOf sum (Read client stream) now f = ⊥
+IsFactOf sum (Patch client stream want) now f = ⊥
+IsFactOf sum (Put client stream want) now f = ⊥
+IsFactOf sum (Delete client stream) now f = ⊥
+IsFactOf sum (GetStatus client stream) now f = ⊥
+IsFactOf sum (SetStatus client stream status reason) now f = ⊥
+IsFactOf sum (Add client stream subject) now f = ⊥
+IsFactOf sum (Remove client stream subject) now f = ⊥
+IsFactOf sum (Verify client stream state) now f =
+    (own : Stream) × (client_stream client stream sum.parts.streams ≡ Some own) × ((own.status ≡ status.Disabled) → ⊥) × IsLate own now
+    × (f ≡ fact.Asked stream state now)
+IsFactOf sum (Poll client stream ask) now f = ⊥
+IsFactOf sum (Publish id news) now f = (publication_of id sum.parts.published ≡ None) × (f ≡ fact.Published id news now)
+IsFactOf sum (OperatorStatus stream new reason) now f =
+    (own : Stream) × (stream_named stream sum.parts.streams ≡ Some own) × ((own.status ≡ new) → ⊥) × (f ≡ fact.StatusSet stream new reason true now)
+IsFactOf sum (Deliver stream) now f = ⊥
+IsFactOf sum (Hand streams) now f = ⊥
+IsFactOf sum (Settle stream number outcome) now f = ⊥
 
 -- the bytes of a token's payload
 abbrev pub payload_bytes : Made → ℕ
@@ -134,7 +142,7 @@ pub record SaysLong (sum : Sum) (call : Call) (now : ℕ) (change : Option Fact)
   pub fact : Fact
   pub token : Made
   pub same : change ≡ None
-  pub is : IsFactOf call now fact
+  pub is : IsFactOf sum call now fact
   pub made : Contains (made_by sum.parts fact) token
   pub bytes : payload_bytes token ≡ size
   pub most : All (λ (t : Made). payload_bytes t ≤ size) (made_by sum.parts fact)

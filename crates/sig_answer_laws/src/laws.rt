@@ -1,5 +1,6 @@
 //! Laws over the definitions: each function's contract is the law, and nothing calls it.
 
+ghost use Rattle.sig_answer_laws.specs.Exact.{ConflictComes, DisabledComes, EarlyComes, LongComes, NotFoundComes, TooManyComes};
 ghost use Rattle.sig_answer_laws.specs.Laws.{AddedIsTrue, AskedIsTrue, ConfIsTrue, ConflictIsTrue, ConfsIsTrue, DeliveringIsTrue, DisabledIsTrue, EarlyIsTrue, GoneIsTrue, HandedIsTrue, LongIsTrue, MadeIsTrue, MetaIsTrue, NotFoundIsTrue, PublishedIsTrue, RemovedIsTrue, SetsIsTrue, SettledIsTrue, StateIsTrue, TooManyIsTrue};
 
 /// The answer that what the transmitter offers is told comes to the call that asks for it, and nothing changes (Shared Signals
@@ -116,4 +117,36 @@ pub fn early_is_true()
 /// are more than a payload may have, and nothing changes.
 pub fn long_is_true()
     ensures { LongIsTrue }
+{}
+
+/// Wherever the client or the stream that a call names isn't there, it is answered that nothing was found.
+pub fn not_found_comes_exactly()
+    ensures { NotFoundComes }
+{}
+
+/// Wherever a known client that makes a stream has as many as it may, it is answered so.
+pub fn too_many_comes_exactly()
+    ensures { TooManyComes }
+{}
+
+/// Wherever other news were published under a publication's name, it is answered to conflict.
+pub fn conflict_comes_exactly()
+    ensures { ConflictComes }
+{}
+
+/// Wherever a verification is asked of a disabled stream, it is answered so (Shared Signals Framework 1.0, section 8.1.4.2).
+pub fn disabled_comes_exactly()
+    ensures { DisabledComes }
+{}
+
+/// Wherever a verification is asked too short a time after the last, it is answered when the next one may be (Shared Signals
+/// Framework 1.0, section 8.1.4.2).
+pub fn early_comes_exactly()
+    ensures { EarlyComes }
+{}
+
+/// Wherever nothing else refuses a call and one of its tokens would be too long, it is answered so, with the bytes of the
+/// largest.
+pub fn long_comes_exactly()
+    ensures { LongComes }
 {}
