@@ -32,7 +32,7 @@ fn streams_named(
     answer: &Answer,
 ) -> Result<Option<Items<Text>>, Memory>
     ensures streams { IfOk result (λ streams. streams ≡ option_map (filter (spec.has_client rules.now)) (spec.streams_named answer.now)) }
-    ensures memory { OnErr result (IsSome (spec.streams_named answer.now)) }
+    ensures memory { OnErr result (IsSome (option_map (filter (spec.has_client rules.now)) (spec.streams_named answer.now))) }
 {
     match answer {
         Answer::Published { tokens, .. } => Ok(Some(names_of(alloc, rules, tokens.as_slice())?)),

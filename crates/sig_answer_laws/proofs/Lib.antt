@@ -1,0 +1,7 @@
+pub mod TokenLemmas
+pub mod SubjectLemmas
+pub mod StreamLemmas
+pub mod RefusalLemmas
+pub mod GivenLemmas
+pub mod SaysLemmas
+pub mod ExactLemmas
