@@ -1,4 +1,4 @@
-use Rattle.std.proofs.Common.{ap, length, subst}
+use Rattle.std.proofs.Common.{subst}
 use Rattle.sig_journal.specs.Added.{rests_with_it}
 use Rattle.sig_nodes.specs.Receiving.{RxTaken}
 use Rattle.sig_nodes.proofs.KeptLemmas.{err_same, if_ok}
@@ -16,8 +16,8 @@ returns-in-Ok-Some-clause-halted c = λ name texts at.
 pub returns-in-Ok-None-clause-halted : goal.returns-in-Ok-None-clause-halted
 returns-in-Ok-None-clause-halted c =
     if_ok c.load_halted.result
-    (λ r h name texts at. crashed_at c.args.rules name texts c.args.call.now (length c.entries-before.result.now) (rests_with_it c.args.calls c.args.fill) c.args.node c.take_halted.new.node r.0 r.1
-    at (ap length c.entries-before.ensures)
+    (λ r h name texts at. crashed_at c.args.rules name texts c.args.call.now c.tokens-before.result (rests_with_it c.args.calls c.args.fill) c.args.node c.take_halted.new.node r.0 r.1
+    at c.tokens-before.ensures
     (subst (RxTaken c.args.rules name texts c.args.call.now (rests_with_it c.args.calls c.args.fill) c.take_halted.new.node) c.in-Ok-None.field-0-is
     (c.in-Ok-None.ensures.taken c.args.rules name texts c.args.calls c.args.fill
     (stopped_at c.args.rules name texts c.args.node c.stop_after.new.self at c.stop_after.ensures.written_stays c.stop_after.ensures.other_stays c.stop_after.ensures.journal
