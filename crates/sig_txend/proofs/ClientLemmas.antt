@@ -54,11 +54,12 @@ rounds_hand rules by (s ∷ streams) a b turns starved ok (between, one, these, 
     let client = λ (stream : List ℕ). has_client rules stream ≡ true in
     subst (All (HandsToClients rules)) (sym parts)
     (All-append (HandsToClients rules) these those (round_hands rules by s a between these one (All-head client s streams ok) round)
-    (others (is_starved one) next))
+    (others (is_starved one) (rounds_hand rules by streams between b those starved (All-tail client s streams ok)) next))
   where
-    others : (out : Bool) → NextUnless out (AreRounds rules by streams between b those starved) ((those ≡ []) × (b ≡ between) × (starved ≡ true)) → All (HandsToClients rules) those
-    others true ended = subst (All (HandsToClients rules)) (sym ended.0) (All-nil (HandsToClients rules))
-    others false more = rounds_hand rules by streams between b those starved (All-tail (λ (stream : List ℕ). has_client rules stream ≡ true) s streams ok) more
+    others : (out : Bool) → (AreRounds rules by streams between b those starved → All (HandsToClients rules) those)
+        → NextUnless out (AreRounds rules by streams between b those starved) ((those ≡ []) × (b ≡ between) × (starved ≡ true)) → All (HandsToClients rules) those
+    others true rest ended = subst (All (HandsToClients rules)) (sym ended.0) (All-nil (HandsToClients rules))
+    others false rest more = rest more
 
 over_clients : (rules : Rules) (by : Asker) (named : Option (List (List ℕ))) (a b : SideView) (turns : List Turn) (starved : Bool)
     → AreRoundsOver rules by (option_map (filter (has_client rules)) named) a b turns starved → All (HandsToClients rules) turns
