@@ -8,8 +8,6 @@
 #[cfg(test)]
 mod copies;
 #[cfg(test)]
-mod courier;
-#[cfg(test)]
 mod receiver;
 #[cfg(test)]
 mod stores;

@@ -15,8 +15,7 @@ use std::test::Fail;
 const SETTINGS: &[u8] =
     br#"{"issuer":"https://idp.example","base":"http://tx.example","listen":"127.0.0.1:8080","operator":"op","default_subjects":"ALL","min_verification_interval":60,"key":{"k":"MDEyMzQ1Njc4OWFiY2RlZjAxMjM0NTY3ODlhYmNkZWY","kid":"k1"},"clients":[{"aud":["https://rp.example"],"bearer":"acme-1","name":"acme"}]}"#;
 
-/// Rules with one client.
-pub fn rules(alloc: Global) -> Result<Rules, Memory>
+fn rules(alloc: Global) -> Result<Rules, Memory>
     ensures { IfOk result IsProperRules }
 {
     match tx_settings(alloc, SETTINGS) {

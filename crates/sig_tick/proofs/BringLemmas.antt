@@ -1,10 +1,9 @@
 -- Tokens that an attempt brings, one after another.
-use Rattle.std.proofs.Common.{◌≡◌, ◌⊎◌, ◌∙◌, sym, ap, subst, refl, ℕ, ◌+◌, ◌<◌, ◌≤◌, Bool, true, List, [], ◌∷◌, ◌++◌, length, get_or, drop, Option, Result, Ok, Err, is_ok, IsOk, inl, inr}
+use Rattle.std.proofs.Common.{◌≡◌, ◌⊎◌, ◌∙◌, sym, ap, subst, refl, ℕ, ◌+◌, ◌<◌, ◌≤◌, true, List, [], ◌∷◌, ◌++◌, length, get_or, drop, Option, Result, Ok, Err, is_ok, IsOk, inl, inr}
 use Rattle.std.specs.Prelude.{⊤}
 use Rattle.std.proofs.lemmas.List.{drop_all}
 use Rattle.std.proofs.lemmas.List.Elements.{All-cons, All-nil}
 use Rattle.sig_journal.specs.declared.node_fault.NodeFault.{NodeFault}
-use Rattle.sig_journal.specs.declared.node_fault.NodeFault.TheVariants as node
 use Rattle.sig_links.specs.Views.{SideView}
 use Rattle.sig_push.specs.declared.fault.PushFault.{PushFault}
 use Rattle.sig_push.specs.declared.fault.PushFault.TheVariants.{NoEndpoint, NoGateway, Dial, Link, NoResponse, Memory}
@@ -18,7 +17,7 @@ use Rattle.sig_round.specs.Delivered.{Delivered, Settles}
 use Rattle.sig_round.specs.Turns.{Asker}
 use Rattle.sig_round.proofs.Grown.{adds_none, adds_on}
 use Rattle.sig_round.proofs.MorePushes.{delivers_none, delivers_on}
-use Rattle.sig_tick.specs.Bringing.{AreAnswered, AreRefused, Brought, Stops, end_by}
+use Rattle.sig_tick.specs.Bringing.{AreAnswered, Brought, Stops, end_by}
 use Rattle.sig_tick.specs.Listing.{ended}
 use Rattle.sig_tick.proofs.AskLemmas.{ok_no_err}
 use Rattle.sig_tick.proofs.Collecting.{next_item, same_asker}

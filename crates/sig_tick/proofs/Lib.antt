@@ -4,3 +4,4 @@ pub mod BringLemmas
 pub mod TryLemmas
 pub mod TickLemmas
 pub mod OverNodeLemmas
+pub mod LateLemmas

@@ -1,5 +1,5 @@
 -- A tick over a node: what it tells as a taker is what is seen of it.
-use Rattle.std.proofs.Common.{◌≡◌, ◌∙◌, sym, ap, subst, ℕ, List, ◌++◌, Bool, Option, Some, Result}
+use Rattle.std.proofs.Common.{◌≡◌, ◌∙◌, sym, ap, subst, List, ◌++◌, Bool, Option, Some, Result}
 use Rattle.sig_courier.specs.Schedule.{Kept}
 use Rattle.sig_courier.specs.declared.attempt.Attempt.{Attempt}
 use Rattle.sig_journal.specs.declared.node_fault.NodeFault.{NodeFault}

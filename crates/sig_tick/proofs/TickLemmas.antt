@@ -1,7 +1,7 @@
 -- A tick: its turns for the lists, and those that follow.
 use Rattle.std.proofs.Common.{◌≡◌, ◌∙◌, sym, ap, subst, refl, ℕ, List, [], ◌++◌, Option, Result, Ok, Err, append-nil}
 use Rattle.std.specs.Prelude.{IfOk, ⊤}
-use Rattle.sig_courier.specs.Schedule.{IsLogged, Kept}
+use Rattle.sig_courier.specs.Schedule.{Kept}
 use Rattle.sig_courier.specs.declared.attempt.Attempt.{Attempt}
 use Rattle.sig_journal.specs.declared.node_fault.NodeFault.{NodeFault}
 use Rattle.sig_journal.specs.declared.node_fault.NodeFault.TheVariants.{Memory}

@@ -22,7 +22,7 @@ use Rattle.sig_round.specs.Turns.{Adds, AddsTurnOf, Asker}
 use Rattle.sig_round.proofs.Grown.{adds_none, adds_on}
 use Rattle.sig_tick.specs.Bringing.{Brings, Brought, are_settled, attempt_of}
 use Rattle.sig_tick.specs.Listing.{ended}
-use Rattle.sig_tick.specs.Trying.{AreTried, IsIdle, Noted, Tried, TriedDue, TriedHanded, TriedOne, Tries, TriesHanded, TriesTokens, TriesWhere, is_due}
+use Rattle.sig_tick.specs.Trying.{IsIdle, Noted, Tried, TriedDue, TriedHanded, TriedOne, TriesHanded, TriesTokens, TriesWhere, is_due}
 use Rattle.sig_tick.proofs.AskLemmas.{ok_no_err}
 use Rattle.sig_tick.proofs.Collecting.{next_item, same_asker}
 

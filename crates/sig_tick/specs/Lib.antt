@@ -3,3 +3,4 @@ pub mod Bringing
 pub mod Trying
 pub mod Ticking
 pub mod OverNode
+pub mod Laws

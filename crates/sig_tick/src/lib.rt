@@ -16,6 +16,7 @@
 #![tactic(auto)]
 
 mod bringing;
+pub mod laws;
 mod listing;
 mod over_node;
 mod ticking;

@@ -1,4 +1,4 @@
-use Rattle.std.proofs.Common.{◌≡◌, ◌∙◌, sym, ap, Bool, ◌&&◌, length, eq-eqb}
+use Rattle.std.proofs.Common.{◌∙◌, sym, ap, Bool, ◌&&◌, length, eq-eqb}
 use Rattle.std.specs.List.{list_all}
 use Rattle.sig_tick.specs.Bringing.{is_settling}
 use Rattle.sig_tick.proofs.bringing.are_settled.Goals as goal

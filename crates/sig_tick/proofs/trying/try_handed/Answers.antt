@@ -1,6 +1,5 @@
 use Rattle.std.proofs.Common.{rules, ◌≡◌, ◌∙◌, ap, sym, refl, [], length, Err, None, Some, arith}
 use Rattle.std.proofs.lemmas.Grind.{common_steps}
-use Rattle.sig_round.specs.Rounds.{tokens_in}
 use Rattle.sig_tick.proofs.Collecting.{none_of}
 use Rattle.sig_journal.specs.declared.node_fault.NodeFault.TheVariants.{Memory}
 use Rattle.sig_tick.proofs.TryLemmas.{handed_brought, handed_nothing, handed_refused, handed_starved, same_kept}
