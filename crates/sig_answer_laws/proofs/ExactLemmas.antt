@@ -1,12 +1,10 @@
 -- A call with a cause to be refused is refused.
-use Rattle.std.proofs.Common.{◌≡◌, ◌∙◌, ap, sym, subst, ℕ, ◌+◌, ◌-◌, ◌^◌, ◌<◌, ◌≤◌, List, [], ◌∷◌, map, Bool, true, false, Option, Some, None, Ok, if◌then◌else◌, refl, inl, inr, arith}
-use Rattle.std.specs.Prelude.{◌⊎◌, All, Contains, min, nat_le, nat_lt}
+use Rattle.std.proofs.Common.{◌≡◌, ◌∙◌, ap, sym, subst, ℕ, ◌+◌, ◌<◌, ◌≤◌, List, map, true, false, Option, Some, None, Ok, if◌then◌else◌, refl, inl, inr, arith}
+use Rattle.std.specs.Prelude.{All, Contains, nat_lt}
 use Rattle.std.specs.List.{list_any}
-use Rattle.std.proofs.lemmas.Bool.{false_from_ne_true, le-leb, leb-true, lt-ltb, ltb-true}
+use Rattle.std.proofs.lemmas.Bool.{false_from_ne_true, le-leb, lt-ltb, ltb-true}
 use Rattle.std.proofs.lemmas.List.Elements.{All-contains}
 use Rattle.sig_json.specs.declared.limits.TheConstants.{PAYLOAD_BYTES, STREAMS_PER_CLIENT}
-use Rattle.sig_event.specs.News.{is_same_news}
-use Rattle.sig_event.specs.declared.news.News.{News}
 use Rattle.sig_event.specs.declared.status.Status.{Status}
 use Rattle.sig_event.specs.declared.status.Status.TheVariants as status
 use Rattle.sig_terms.specs.Deliveries.{is_push}
@@ -20,9 +18,9 @@ use Rattle.sig_terms.specs.declared.rules.Client.{Client}
 use Rattle.sig_terms.specs.declared.rules.Rules.{Rules}
 use Rattle.sig_history.specs.Facts.{made_by}
 use Rattle.sig_history.specs.Owed.{Sum, stream_named}
-use Rattle.sig_history.specs.Sound.{is_long, is_past, largest}
-use Rattle.sig_history.specs.Streams.{Made, Publication, Stream, is_disabled, issued_of, publication_of, streams_of}
-use Rattle.sig_calls.specs.Creating.{client_of, created_for, next_stream}
+use Rattle.sig_history.specs.Sound.{is_past, largest}
+use Rattle.sig_history.specs.Streams.{Made, Stream, is_disabled, issued_of, streams_of}
+use Rattle.sig_calls.specs.Creating.{created_for, next_stream}
 use Rattle.sig_calls.specs.Equality.{status_eq}
 use Rattle.sig_calls.specs.Found.{client_stream, told_by}
 use Rattle.sig_calls.specs.Polling.{polled, polled_answer, polled_change}
@@ -33,7 +31,7 @@ use Rattle.sig_calls.specs.Told.{Told, making, only, outcome, with_change}
 use Rattle.sig_calls.specs.Verifying.{asked_after, asked_of, next_time}
 use Rattle.sig_calls.proofs.EqualityLemmas.{status_same}
 use Rattle.sig_answer_laws.specs.Exact.{ConflictComes, DisabledComes, EarlyComes, LongComes, NotFoundComes, TooManyComes}
-use Rattle.sig_answer_laws.specs.Refused.{HasNoneToPoll, IsFactOf, IsLate, IsMissing, SaysLong, StandsNoneToPush, payload_bytes}
+use Rattle.sig_answer_laws.specs.Refused.{HasNoneToPoll, IsFactOf, IsLate, StandsNoneToPush, payload_bytes}
 use Rattle.sig_answer_laws.specs.Tokens.{Replies}
 use Rattle.sig_answer_laws.proofs.TokenLemmas.{largest_there, none_larger}
 

@@ -1,12 +1,11 @@
 -- Pages of tokens, publications, and tokens that are settled.
-use Rattle.std.proofs.Common.{◌≡◌, ◌∙◌, ap, sym, subst, ℕ, ◌+◌, ◌-◌, ◌<◌, ◌≤◌, List, [], ◌∷◌, ◌++◌, length, get_or, map, filter, flat_map, take, drop, Bool, true, false, not, ◌&&◌, ◌||◌, ◌==◌, bytes_eq, Option, Some, None, IfSome, option_to_list, if◌then◌else◌, refl, inl, inr, arith}
-use Rattle.std.specs.Prelude.{◌⊎◌, ◌↔◌, All, Contains, min, nat_lt, unwrap_or}
+use Rattle.std.proofs.Common.{◌≡◌, ◌∙◌, ap, sym, ℕ, ◌-◌, ◌<◌, List, [], ◌∷◌, ◌++◌, length, get_or, map, filter, flat_map, take, drop, Bool, true, false, not, ◌&&◌, ◌||◌, ◌==◌, Option, Some, None, option_to_list, if◌then◌else◌, refl, inl, inr, arith}
+use Rattle.std.specs.Prelude.{All, Contains, min, nat_lt}
 use Rattle.std.proofs.lemmas.Bool.{both_ways, eq-eqb, lt-ltb, ltb-true, ne_eqb, or_from}
 use Rattle.std.proofs.lemmas.List.{length-drop, length-map, length-take, take-append-drop}
 use Rattle.std.proofs.lemmas.List.Elements.{All-append, All-cons, All-contains_itself, All-map, All-nil}
 use Rattle.sig_json.specs.declared.limits.TheConstants.{TOKENS_PER_PAGE}
 use Rattle.sig_event.specs.declared.news.News.{News}
-use Rattle.sig_terms.specs.declared.call.Call.{Call}
 use Rattle.sig_terms.specs.declared.call.Call.TheVariants.{Hand, Poll, Settle}
 use Rattle.sig_terms.specs.declared.call.Outcome.{Outcome}
 use Rattle.sig_terms.specs.declared.call.Outcome.TheVariants.{Accepted, Reported, Keep}
@@ -14,11 +13,10 @@ use Rattle.sig_terms.specs.declared.call.PollAsk.{PollAsk}
 use Rattle.sig_terms.specs.declared.fact.Fact.{Fact}
 use Rattle.sig_terms.specs.declared.fact.Fact.TheVariants.{Published, Settled}
 use Rattle.sig_terms.specs.declared.fact.SettledItem.{SettledItem}
-use Rattle.sig_terms.specs.declared.token.Issued.{Issued}
 use Rattle.sig_terms.specs.declared.token.Token.{Token}
 use Rattle.sig_terms.specs.declared.want.Delivery.{Delivery}
-use Rattle.sig_history.specs.Facts.{made_by, tells, time_of, token_by, token_for}
-use Rattle.sig_history.specs.Owed.{Sum, names_number, offered_by, owed_by, sum_of, takes_off}
+use Rattle.sig_history.specs.Facts.{made_by, token_by, token_for}
+use Rattle.sig_history.specs.Owed.{Sum, offered_by, owed_by, sum_of, takes_off}
 use Rattle.sig_history.specs.Sound.{has_number}
 use Rattle.sig_history.specs.Streams.{Made, Stream, is_due, issued_of, made_in, stands, token_of}
 use Rattle.sig_history.specs.Whole.{IsWhole}
@@ -26,11 +24,11 @@ use Rattle.sig_history.proofs.JoinLemmas.{filter_same}
 use Rattle.sig_history.proofs.StreamLemmas.{text_itself}
 use Rattle.sig_calls.specs.Handing.{first_names, pushed_by}
 use Rattle.sig_calls.specs.Polling.{page_size}
-use Rattle.sig_calls.specs.Settling.{outcome_item, settled_fact, settled_one}
+use Rattle.sig_calls.specs.Settling.{outcome_item, settled_fact}
 use Rattle.sig_calls.proofs.ChangedLemmas.{left_owed}
 use Rattle.sig_fact_laws.proofs.LeavesLemmas.{nothing_beside}
 use Rattle.sig_answer_laws.specs.Given.{OwesIssued, SaysHanded, SaysSets, SaysSettled}
-use Rattle.sig_answer_laws.specs.Tokens.{OwesToken, after}
+use Rattle.sig_answer_laws.specs.Tokens.{after}
 use Rattle.sig_answer_laws.proofs.TokenLemmas.{made_owed}
 
 -- ---- pages

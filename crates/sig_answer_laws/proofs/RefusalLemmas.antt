@@ -1,8 +1,6 @@
 -- What calls are told, by its shape, and that what refuses them has its cause.
-use Rattle.std.proofs.Common.{◌≡◌, ◌∙◌, ap, sym, subst, ℕ, ◌+◌, ◌<◌, ◌≤◌, List, [], ◌∷◌, Bool, true, false, Option, Some, None, IfSome, option_to_list, if◌then◌else◌, refl, inl, inr, arith}
-use Rattle.std.specs.Prelude.{nat_lt}
+use Rattle.std.proofs.Common.{◌≡◌, ℕ, ◌<◌, List, Bool, true, false, Option, Some, None, IfSome, if◌then◌else◌, refl, arith}
 use Rattle.std.specs.List.{list_any}
-use Rattle.std.proofs.lemmas.Bool.{ltb-true}
 use Rattle.sig_json.specs.declared.limits.TheConstants.{PAYLOAD_BYTES}
 use Rattle.sig_terms.specs.declared.answer.Answer.{Answer}
 use Rattle.sig_terms.specs.declared.answer.Answer.TheVariants as answer
@@ -17,7 +15,7 @@ use Rattle.sig_calls.specs.Found.{told_by}
 use Rattle.sig_calls.specs.Speaking.{IsTrueTold}
 use Rattle.sig_calls.specs.Told.{Told, making, only}
 use Rattle.sig_answer_laws.specs.Laws.{Says}
-use Rattle.sig_answer_laws.specs.Refused.{IsFactOf, IsMissing, SaysLong, payload_bytes}
+use Rattle.sig_answer_laws.specs.Refused.{IsFactOf, IsMissing, SaysLong}
 use Rattle.sig_answer_laws.proofs.TokenLemmas.{largest_there, long_above, none_larger}
 
 -- ---- a call over what a history came to

@@ -1,14 +1,12 @@
 -- What each call is told is so: a line for each.
-use Rattle.std.proofs.Common.{◌≡◌, ◌∙◌, ap, sym, subst, ℕ, ◌+◌, ◌≤◌, List, [], ◌∷◌, map, Bool, true, false, Option, Some, None, IfSome, if◌then◌else◌, refl, inl, inr}
+use Rattle.std.proofs.Common.{◌≡◌, ◌∙◌, ap, sym, subst, ℕ, ◌+◌, ◌≤◌, List, map, true, false, Option, Some, None, if◌then◌else◌, refl, inl, inr}
 use Rattle.std.specs.Prelude.{nat_le, nat_lt}
-use Rattle.std.specs.List.{list_any}
 use Rattle.std.proofs.lemmas.Bool.{both_ways, leb-false, leb-true, ltb-false, ltb-true}
 use Rattle.sig_json.specs.declared.limits.TheConstants.{STREAMS_PER_CLIENT}
 use Rattle.sig_event.specs.News.{is_same_news}
 use Rattle.sig_event.specs.declared.news.News.{News}
 use Rattle.sig_event.specs.declared.status.Status.{Status}
 use Rattle.sig_event.specs.declared.status.Status.TheVariants as status
-use Rattle.sig_subject.specs.declared.subject.Subject.{Subject}
 use Rattle.sig_terms.specs.Deliveries.{is_push}
 use Rattle.sig_terms.specs.Reply.{Reply}
 use Rattle.sig_terms.specs.declared.answer.Answer.{Answer}
@@ -23,7 +21,7 @@ use Rattle.sig_terms.specs.declared.rules.Rules.{Rules}
 use Rattle.sig_terms.specs.declared.want.Want.{Want}
 use Rattle.sig_history.specs.Facts.{brought_by, made_by, updated_news, verified_news}
 use Rattle.sig_history.specs.Owed.{Sum, owed_by, stream_named}
-use Rattle.sig_history.specs.Sound.{has_number, is_past}
+use Rattle.sig_history.specs.Sound.{has_number}
 use Rattle.sig_history.specs.Streams.{Publication, Stream, client_in, is_disabled, issued_of, publication_of, streams_of}
 use Rattle.sig_history.specs.Whole.{IsWhole}
 use Rattle.sig_history.proofs.ChangeLemmas.{named_is}
@@ -33,9 +31,9 @@ use Rattle.sig_owing.proofs.OwedStepLemmas.{deleting_leaves}
 use Rattle.sig_calls.specs.Configuring.{configured_change, patched, reconfigured, replaced}
 use Rattle.sig_calls.specs.Creating.{client_of, created_for, next_conf, next_stream}
 use Rattle.sig_calls.specs.Equality.{status_eq}
-use Rattle.sig_calls.specs.Found.{client_stream, told_by}
+use Rattle.sig_calls.specs.Found.{client_stream}
 use Rattle.sig_calls.specs.Polling.{polled, polled_answer, polled_change}
-use Rattle.sig_calls.specs.Proper.{IsProperCall, IsProperRules}
+use Rattle.sig_calls.specs.Proper.{IsProperCall}
 use Rattle.sig_calls.specs.Publishing.{published_after}
 use Rattle.sig_calls.specs.Regular.{IsRegular}
 use Rattle.sig_calls.specs.Statuses.{operated, state_of, status_set}
@@ -50,7 +48,6 @@ use Rattle.sig_call_laws.proofs.AuthorityLemmas.{IsStreamOf, stream_of_client}
 use Rattle.sig_call_laws.proofs.RepeatLemmas.{new_last, same_itself}
 use Rattle.sig_answer_laws.specs.Laws.{IsTrueAnswer, Says}
 use Rattle.sig_answer_laws.specs.Refused.{IsLate}
-use Rattle.sig_answer_laws.specs.Tokens.{after}
 use Rattle.sig_answer_laws.proofs.GivenLemmas.{handed_says, issued_owed, sets_say, settled_says}
 use Rattle.sig_answer_laws.proofs.RefusalLemmas.{Case, IsKnown, Tells, either_says, found_says, making_says}
 use Rattle.sig_answer_laws.proofs.StreamLemmas.{after_whole, confs_each, own_conf}

@@ -1,10 +1,10 @@
 -- Streams that stand, and whose they are.
-use Rattle.std.proofs.Common.{◌≡◌, ◌∙◌, ap, sym, subst, ℕ, List, [], ◌∷◌, map, filter, Bool, true, false, bytes_eq, Option, Some, None, IfSome, option_to_list, if◌then◌else◌, refl, inl, inr}
-use Rattle.std.specs.Prelude.{◌⊎◌, ◌↔◌, Contains}
+use Rattle.std.proofs.Common.{◌≡◌, ◌∙◌, ap, sym, subst, ℕ, List, [], ◌∷◌, map, filter, Bool, true, false, bytes_eq, Option, Some, None, IfSome, if◌then◌else◌, refl, inl, inr}
+use Rattle.std.specs.Prelude.{◌↔◌, Contains}
 use Rattle.std.specs.List.{AllByRecursion}
 use Rattle.sig_terms.specs.declared.configuration.StreamConf.{StreamConf}
 use Rattle.sig_terms.specs.declared.fact.Fact.{Fact}
-use Rattle.sig_history.specs.Owed.{Sum, stream_named, sum_of}
+use Rattle.sig_history.specs.Owed.{Sum, stream_named}
 use Rattle.sig_history.specs.Sound.{Fits}
 use Rattle.sig_history.specs.Streams.{Count, Made, Stream, client_in, is_named}
 use Rattle.sig_history.specs.Whole.{AreWhole, IsWhole}

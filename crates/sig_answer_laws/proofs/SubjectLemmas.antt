@@ -1,25 +1,21 @@
 -- Which subjects a stream has after one was added or removed.
-use Rattle.std.proofs.Common.{◌≡◌, ◌∙◌, ap, sym, subst, ℕ, List, [], ◌∷◌, ◌++◌, Bool, true, false, ◌&&◌, Option, Some, None, if◌then◌else◌, refl, inl, inr}
-use Rattle.std.specs.Prelude.{◌⊎◌, Contains}
+use Rattle.std.proofs.Common.{◌≡◌, ◌∙◌, ap, sym, subst, ℕ, List, [], ◌∷◌, Bool, true, false, Some, None, if◌then◌else◌, refl, inl, inr}
+use Rattle.std.specs.Prelude.{Contains}
 use Rattle.std.specs.List.{list_any, list_all}
-use Rattle.std.specs.Option.{option_to_list}
 use Rattle.std.proofs.lemmas.Bool.{and_parts, both_ways}
 use Rattle.std.proofs.lemmas.List.Elements.{Contains-push}
 use Rattle.std.proofs.lemmas.Map.Views.{Contains-from_any, list_any-from_Contains}
-use Rattle.sig_subject.specs.Matching.{agrees, all_agree, is_identical, part_named}
+use Rattle.sig_subject.specs.Matching.{agrees, is_identical, part_named}
 use Rattle.sig_subject.specs.Written.{IsProperSubject}
 use Rattle.sig_subject.specs.declared.member.Member.{Member}
-use Rattle.sig_subject.specs.declared.simple.Simple.{Simple}
 use Rattle.sig_subject.specs.declared.subject.Subject.{Subject}
 use Rattle.sig_subject.specs.declared.subject.Subject.TheVariants as subject
 use Rattle.sig_subject.proofs.Covering.{agrees_found, covers_itself}
 use Rattle.sig_subject.proofs.Identity.{decides_identity, identity_equiv}
-use Rattle.sig_terms.specs.declared.fact.Fact.{Fact}
 use Rattle.sig_terms.specs.declared.fact.Fact.TheVariants.{Listed, Unlisted}
 use Rattle.sig_terms.specs.declared.want.Defaults.{Defaults}
 use Rattle.sig_terms.specs.declared.want.Defaults.TheVariants as defaults
-use Rattle.sig_history.specs.Changes.{HasOtherList}
-use Rattle.sig_history.specs.Owed.{Sum, stream_named, sum_of}
+use Rattle.sig_history.specs.Owed.{Sum, stream_named}
 use Rattle.sig_history.specs.Streams.{Stream}
 use Rattle.sig_history.proofs.ChangeLemmas.{listing_puts, unlisting_takes}
 use Rattle.sig_calls.specs.Subjects.{added_change, is_listed, removed_change}

@@ -7,7 +7,6 @@ use Rattle.sig_event.specs.News.{is_same_news}
 use Rattle.sig_event.specs.declared.event.Event.TheVariants as event
 use Rattle.sig_event.specs.declared.news.News.{News}
 use Rattle.sig_event.specs.declared.status.Status.{Status}
-use Rattle.sig_event.specs.declared.status.Status.TheVariants as status
 use Rattle.sig_terms.specs.Deliveries.{is_push}
 use Rattle.sig_terms.specs.declared.call.Call.{Call}
 use Rattle.sig_terms.specs.declared.call.Call.TheVariants.{Metadata, Create, ReadAll, Delete, Add, Remove, Verify, Poll, Publish, Deliver, Hand, Settle}

@@ -2,7 +2,6 @@
 use Rattle.std.specs.Prelude.{◌≡◌, ℕ, List, [], ◌∷◌, Option, Some, Ok, Contains}
 use Rattle.std.specs.Option.{option_to_list}
 use Rattle.sig_event.specs.declared.event.Event.{Event}
-use Rattle.sig_terms.specs.Reply.{Reply}
 use Rattle.sig_terms.specs.declared.answer.Answer.{Answer}
 use Rattle.sig_terms.specs.declared.call.Call.{Call}
 use Rattle.sig_terms.specs.declared.call.Call.TheVariants.{Metadata, Create, ReadAll, Read, Patch, Put, Delete, GetStatus, SetStatus, Add, Remove, Verify, Poll, Publish, OperatorStatus, Deliver, Hand, Settle}
@@ -10,7 +9,6 @@ use Rattle.sig_terms.specs.declared.fact.Fact.{Fact}
 use Rattle.sig_terms.specs.declared.rules.Rules.{Rules}
 use Rattle.sig_history.specs.Streams.{Made, Stream}
 use Rattle.sig_history.specs.Owed.{Sum, owed_by, stream_named, sum_of}
-use Rattle.sig_calls.specs.Found.{client_stream}
 use Rattle.sig_calls.specs.Table.{prepared_of}
 
 -- a call isn't refused for its numbers: it has this answer, and this fact, if any

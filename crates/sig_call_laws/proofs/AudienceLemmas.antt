@@ -1,26 +1,25 @@
 -- Each token that calls make is for the audience that the rules give to its stream's client.
-use Rattle.std.proofs.Common.{◌≡◌, ◌∙◌, ap, sym, subst, ◌+◌, ℕ, List, [], ◌∷◌, ◌++◌, map, filter, flat_map, Bool, true, false, not, Option, Some, None, IfSome, if◌then◌else◌, refl}
+use Rattle.std.proofs.Common.{◌≡◌, ◌∙◌, ap, sym, subst, ◌+◌, ℕ, List, [], ◌∷◌, ◌++◌, map, flat_map, Bool, true, false, not, Option, Some, None, IfSome, if◌then◌else◌, refl}
 use Rattle.std.specs.Prelude.{All}
 use Rattle.std.proofs.lemmas.List.Elements.{All-append, All-cons, All-filter, All-head, All-map, All-nil, All-tail, All-weaker}
 use Rattle.sig_event.specs.declared.news.News.{News}
 use Rattle.sig_terms.specs.declared.call.Call.{Call}
 use Rattle.sig_terms.specs.declared.call.Call.TheVariants.{Metadata, Create, ReadAll, Read, Patch, Put, Delete, GetStatus, SetStatus, Add, Remove, Verify, Poll, Publish, OperatorStatus, Deliver, Hand, Settle}
 use Rattle.sig_terms.specs.declared.fact.Fact.{Fact}
-use Rattle.sig_terms.specs.declared.fact.Fact.TheVariants.{Published}
 use Rattle.sig_terms.specs.declared.rules.Client.{Client}
 use Rattle.sig_terms.specs.declared.rules.Rules.{Rules}
 use Rattle.sig_terms.specs.declared.want.Want.{Want}
 use Rattle.sig_history.specs.Facts.{brought_by, made_by, parts_after, placed, removed_by, stream_after, tells, time_of, token_by, token_for, tokens_of, without}
 use Rattle.sig_history.specs.Owed.{Sum, empty_sum, sum_of}
-use Rattle.sig_history.specs.Streams.{Parts, Stream, client_in, created_by, is_before, is_named, put_in_order}
+use Rattle.sig_history.specs.Streams.{Stream, client_in, created_by, is_before, is_named, put_in_order}
 use Rattle.sig_history.proofs.StreamLemmas.{IsSameStream, after_same}
-use Rattle.sig_calls.specs.Creating.{client_of, next_conf}
+use Rattle.sig_calls.specs.Creating.{client_of}
 use Rattle.sig_calls.specs.Proper.{IsProperRules}
 use Rattle.sig_calls.specs.Table.{told_of}
 use Rattle.sig_calls.specs.Told.{Told, outcome}
 use Rattle.sig_call_laws.specs.Audience.{IsForClient, Timed, TokensAreForTheClient, facts_in, facts_of}
 use Rattle.sig_call_laws.proofs.AuthorityLemmas.{client_name}
-use Rattle.sig_call_laws.proofs.ChangeLemmas.{FactOf, IsOn, IsOnOwn, change_is}
+use Rattle.sig_call_laws.proofs.ChangeLemmas.{FactOf, change_is}
 
 -- ---- streams
 

@@ -14,7 +14,7 @@ use Rattle.sig_terms.specs.declared.rules.Client.{Client}
 use Rattle.sig_terms.specs.declared.rules.Rules.{Rules}
 use Rattle.sig_terms.specs.declared.want.Want.{Want}
 use Rattle.sig_history.specs.Changes.{stream_of}
-use Rattle.sig_history.specs.Facts.{made_by, published_by, tells, time_of, token_by, token_for}
+use Rattle.sig_history.specs.Facts.{published_by, tells, time_of, token_by, token_for}
 use Rattle.sig_history.specs.Owed.{Sum, stream_named}
 use Rattle.sig_history.specs.Sound.{is_client_name}
 use Rattle.sig_history.specs.Streams.{Count, Made, Stream, client_in, created_by, stream_name}
@@ -25,12 +25,11 @@ use Rattle.sig_owing.proofs.OthersLemmas.{facts_leave_others}
 use Rattle.sig_calls.specs.Creating.{client_of, next_conf}
 use Rattle.sig_calls.specs.Found.{client_stream}
 use Rattle.sig_calls.specs.Proper.{IsProperRules, is_proper_client}
-use Rattle.sig_calls.specs.Table.{change_of}
 use Rattle.sig_calls.proofs.CreatingLemmas.{client_found, client_named, client_proper}
 use Rattle.sig_isolation.specs.Isolation.{concerns, is_call_of}
 use Rattle.sig_isolation.proofs.OthersLemmas.{tells_left}
 use Rattle.sig_fact_laws.proofs.SpentLemmas.{each_named}
-use Rattle.sig_call_laws.specs.Authority.{ClientsChangeTheirOwn, IsTokenOf, IsWithin, LeavesStream}
+use Rattle.sig_call_laws.specs.Authority.{ClientsChangeTheirOwn, IsTokenOf, IsWithin}
 use Rattle.sig_call_laws.proofs.ChangeLemmas.{FactOf, IsOnOwn, fact_is}
 
 -- ---- a client's stream

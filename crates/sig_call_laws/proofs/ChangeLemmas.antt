@@ -25,7 +25,7 @@ use Rattle.sig_history.specs.Facts.{brought_by, made_by, published_by}
 use Rattle.sig_history.specs.Owed.{Sum, owed_by, stream_named}
 use Rattle.sig_history.specs.Sound.{is_long, is_past, largest}
 use Rattle.sig_history.specs.Streams.{Publication, Stream, is_disabled, publication_of, streams_of}
-use Rattle.sig_calls.specs.Configuring.{configured_change, patched, reconfigured, replaced}
+use Rattle.sig_calls.specs.Configuring.{patched, reconfigured, replaced}
 use Rattle.sig_calls.specs.Creating.{client_of, created_for, next_conf, next_stream}
 use Rattle.sig_calls.specs.Equality.{same_settings, status_eq}
 use Rattle.sig_calls.specs.Found.{client_stream, told_by}

@@ -1,15 +1,13 @@
 -- What was published under a name stays published, and is what later publications of that name are held against.
-use Rattle.std.proofs.Common.{◌≡◌, ◌∙◌, ap, sym, subst, ℕ, List, [], ◌∷◌, ◌++◌, map, Bool, true, false, ◌&&◌, bytes_eq, Option, Some, None, option_to_list, Ok, Err, if◌then◌else◌, refl}
+use Rattle.std.proofs.Common.{◌≡◌, ◌∙◌, ap, sym, subst, ℕ, List, [], ◌∷◌, ◌++◌, map, Bool, true, false, ◌&&◌, bytes_eq, Option, Some, None, option_to_list, Ok, if◌then◌else◌, refl}
 use Rattle.std.specs.List.{list_any}
 use Rattle.std.proofs.lemmas.Bool.{and_from, and_parts, both_ways, false_from_ne_true}
 use Rattle.sig_subject.specs.Matching.{is_identical}
-use Rattle.sig_subject.specs.declared.subject.Subject.{Subject}
 use Rattle.sig_subject.proofs.Identity.{decides_identity}
 use Rattle.sig_event.specs.Events.{event_text, uri_of}
 use Rattle.sig_event.specs.News.{is_same_news}
 use Rattle.sig_event.specs.declared.news.News.{News}
 use Rattle.sig_terms.specs.Reply.{Reply}
-use Rattle.sig_terms.specs.declared.answer.Answer.{Answer}
 use Rattle.sig_terms.specs.declared.answer.Answer.TheVariants as answer
 use Rattle.sig_terms.specs.declared.call.Call.TheVariants.{Publish}
 use Rattle.sig_terms.specs.declared.fact.Fact.{Fact}
@@ -23,7 +21,7 @@ use Rattle.sig_history.specs.Streams.{Made, Parts, Publication, issued_of, publi
 use Rattle.sig_history.proofs.StreamLemmas.{same_text, text_itself}
 use Rattle.sig_calls.specs.Publishing.{first_publication, published_after, publishing}
 use Rattle.sig_calls.specs.Table.{prepared_of, told_of}
-use Rattle.sig_calls.specs.Told.{Told, making_tokens, only, outcome}
+use Rattle.sig_calls.specs.Told.{Told, only, outcome}
 use Rattle.sig_calls.proofs.ReplyLemmas.{IsReplyOf, reply_of, reply_with}
 use Rattle.sig_call_laws.specs.Repeats.{OtherNewsConflict, RepeatsAreAnsweredAlike, WasPublished, later_sum, reply}
 

@@ -1,6 +1,6 @@
 -- A push to an endpoint that is wanted is read back.
-use Rattle.std.proofs.Common.{◌≡◌, ◌∙◌, ap, sym, subst, ℕ, suc, ◌+◌, ◌<◌, ◌≤◌, ◌^◌, List, [], ◌∷◌, ◌++◌, length, take, Bool, true, false, not, ◌&&◌, ◌||◌, ◌==◌, Option, Some, None, IfSome, IsUtf8, codes, decimal, refl, inl, inr, arith, append-nil, append_assoc, length-append}
-use Rattle.std.specs.Prelude.{IsTrue, cond, nat_le, nat_lt}
+use Rattle.std.proofs.Common.{◌≡◌, ◌∙◌, ap, sym, subst, ℕ, suc, ◌+◌, ◌<◌, ◌≤◌, ◌^◌, List, [], ◌∷◌, ◌++◌, length, take, Bool, true, false, not, ◌&&◌, ◌==◌, Option, Some, None, IfSome, IsUtf8, codes, decimal, refl, inl, inr, arith, append-nil, append_assoc, length-append}
+use Rattle.std.specs.Prelude.{cond, nat_le, nat_lt}
 use Rattle.std.specs.List.{after_first, before_first, list_all, list_any, prefix_len}
 use Rattle.std.proofs.lemmas.Bool.{and_from, and_parts, le-leb, leb-true, lt-ltb, ne_eqb, not_from_false, or_from, or_right}
 use Rattle.std.proofs.lemmas.Fmt.{length-decimal-le}
@@ -16,7 +16,6 @@ use Rattle.sig_http.specs.Written.{IsReadableRequest, target_of}
 use Rattle.sig_http.specs.declared.message.Request.{Request}
 use Rattle.sig_http.proofs.WrittenRequest.{request_read_back}
 use Rattle.sig_outside.specs.declared.place.Place.{Place}
-use Rattle.sig_set.specs.Written.{token_text}
 use Rattle.sig_terms.specs.declared.endpoint.Endpoint.{Endpoint}
 use Rattle.sig_terms.specs.declared.token.Token.{Token}
 use Rattle.sig_stream.specs.Endpoints.{Spells, SpellsPath, scheme_of}

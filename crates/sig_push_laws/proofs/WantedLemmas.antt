@@ -1,5 +1,5 @@
 -- The endpoint of a want is read of its URL, and its authorization is a field's text.
-use Rattle.std.proofs.Common.{◌≡◌, ◌∙◌, ap, subst, List, ◌∷◌, ℕ, Bool, true, false, not, ◌||◌, Option, Some, None, IfSome, Result, Ok, Err, if◌then◌else◌, refl}
+use Rattle.std.proofs.Common.{◌≡◌, ◌∙◌, ap, subst, List, ℕ, Bool, true, false, not, ◌||◌, Option, Some, None, IfSome, Result, Ok, Err, if◌then◌else◌, refl}
 use Rattle.std.specs.Prelude.{ok_or, option_and_then, codes}
 use Rattle.std.specs.List.{list_all}
 use Rattle.serde_json.specs.Data.{Data}
