@@ -32,6 +32,9 @@ import sys
 import tempfile
 
 ROOT = pathlib.Path(__file__).resolve().parents[2]
+sys.path.insert(0, str(ROOT / "tools"))
+from crates.build_program import summed_once
+
 FUNCTION = re.compile(r"( *)(?:pub(?:\([^)]*\))? )?(?:final )?(?:unsafe )?fn (\w+)")
 PARTS = ("src", "specs", "proofs")
 # The functions that keep their bodies in each copy.
@@ -453,6 +456,7 @@ class LeftLibraries:
 
     def __init__(self):
         rt.rtlib.Crate = rt.Crate
+        rt.Crate.stamp = summed_once(rt.Crate.stamp)
         self.crates = sorted(rt.rtlib.crates_below(str(ROOT)), key=lambda it: len(it.below()))
         cache = os.environ.get("XDG_CACHE_HOME") or os.path.expanduser("~/.cache")
         self.sums, self.refused, self.there = {}, Refused(f"{cache}/signals/wrong-bodies"), set()
