@@ -41,6 +41,9 @@ impl<'a> Side for StillSide<'a> {
         Err(self.faults.raise())
     }
 
+    // It dials nothing, so nothing takes time.
+    fn begin_round(&mut self) {}
+
     fn now(&mut self) -> u64 {
         1_700_000_000
     }
