@@ -79,7 +79,8 @@ pub record SaysState (sum : Sum) (change : Option Fact) (stream : List ℕ) (sta
   pub stands : HasState (after sum change) stream status reason
   pub told : IfSome token (λ number. OwesToken (after sum change) stream number (event.StreamUpdated status reason))
 
--- the subject is one of the stream's: a publication about it is due there, where the stream isn't disabled and delivers the type
+-- the subject is one of the stream's: a publication about it is due there, where the stream isn't disabled and delivers the
+-- type
 pub record SaysAdded (sum : Sum) (call : Call) (change : Option Fact) : Type 0 where
   pub client : List ℕ
   pub stream : List ℕ
@@ -142,7 +143,8 @@ pub record SaysDelivering (sum : Sum) (call : Call) (change : Option Fact) (stre
   pub same : change ≡ None
   pub push : (s : Stream) × (stream_named stream sum.parts.streams ≡ Some s) × (is_push s.conf.delivery ≡ true)
 
--- the first tokens that the named push streams offer, stream by stream and each stream once; a page that isn't full has them all
+-- the first tokens that the named push streams offer, stream by stream and each stream once; a page that isn't full has them
+-- all
 pub record SaysHanded (sum : Sum) (call : Call) (change : Option Fact) (tokens : List Token) : Type 0 where
   pub streams : List (List ℕ)
   pub rest : List Token

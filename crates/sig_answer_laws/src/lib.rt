@@ -5,8 +5,8 @@
 //! alone, and none of the product stands on it.
 //!
 //! Promised by `laws`: a law for each answer, under proper rules and over what is whole, and for each refusal one more, that it
-//! comes wherever its cause is. `specs/Given` says what the answers mean that give what was asked for, `specs/Refused` what those
-//! mean that refuse it.
+//! comes wherever its cause is. `specs/Given` says what the answers mean that give what was asked for, `specs/Refused` what
+//! those mean that refuse it.
 #![tactic(auto)]
 
 pub mod laws;

@@ -10,8 +10,8 @@ use Rattle.sig_http.specs.declared.fault.HttpRefusal.TheVariants as refusals
 use Rattle.sig_http.specs.declared.message.Header.{Header}
 use Rattle.sig_http.specs.declared.message.Response.{Response}
 
--- a field that says that the body is JSON (RFC 8259, section 11), and one that says that no cache may keep the response (RFC 9111,
--- section 5.2.2.5)
+-- a field that says that the body is JSON (RFC 8259, section 11), and one that says that no cache may keep the response (RFC
+-- 9111, section 5.2.2.5)
 abbrev pub is_json : Header
 is_json = record { name = codes "content-type"; value = codes "application/json" }
 

@@ -103,8 +103,8 @@ fn around(alloc: Global, place: &[u8]) -> Result<Bytes, Memory>
     Ok(body)
 }
 
-/// A response without a body, which no cache may keep (RFC 9111, section 5.2.2.5). It leaves the link open. Out of memory is the
-/// only error.
+/// A response without a body, which no cache may keep (RFC 9111, section 5.2.2.5). It leaves the link open. Out of memory is
+/// the only error.
 pub fn empty(alloc: Global, status: u16) -> Result<Response, Memory>
     ensures { IfOk result (λ response. response ≡ spec.empty status) }
 {

@@ -83,8 +83,8 @@ pub trait Outside {
         ensures network { network_faults self.new ≡ network_faults self.old }
         ensures cause { HasCause (store_faults self.old) (store_faults self.new) result };
 
-    /// The store with this name, where its file is there; none where it isn't. No file is made. `Failed` raises the count of the
-    /// stores by one, and changes no store.
+    /// The store with this name, where its file is there; none where it isn't. No file is made. `Failed` raises the count of
+    /// the stores by one, and changes no store.
     fn existing_store(&mut self, name: &str) -> Result<Option<Self::D>, Failed>
         ensures found { IfOk result (λ found. IfSome (there self.old name.now) (λ is. is_some found ≡ is)) }
         ensures unfound { IfOk result (λ found. IfNone found ((held self.new ≡ held self.old) × (lent self.new ≡ lent self.old))) }

@@ -12,8 +12,8 @@ use sig_init::FileNames;
 use sig_json::Text;
 use sig_links::Outside;
 
-/// Opens the two files of a store, which are there. `Missing` comes only where one of them isn't, as far as the outside tells, and
-/// `Failed` only where it counted a fault of the stores; what was opened is then given back. No file is made.
+/// Opens the two files of a store, which are there. `Missing` comes only where one of them isn't, as far as the outside tells,
+/// and `Failed` only where it counted a fault of the stores; what was opened is then given back. No file is made.
 pub fn files_of<X: Outside>(names: &FileNames, outside: &mut X) -> Result<(X::D, X::D), Unopened>
     requires { names.now.a ≢ names.now.b }
     ensures told { IfOk result (λ files. IsToldBy X.D.told X.D.seen (X.held outside.old names.now.a) files.0 × IsToldBy X.D.told X.D.seen (X.held outside.old names.now.b) files.1) }

@@ -14,8 +14,8 @@ use sig_journal::{LoadFault, LoadRefused};
 use sig_links::Outside;
 use std::alloc::Global;
 
-/// Opens the two files of a store, which are there, and loads its node. Where it can't, what was opened is given back. No file is
-/// made.
+/// Opens the two files of a store, which are there, and loads its node. Where it can't, what was opened is given back. No file
+/// is made.
 pub fn open<E: Stored, X: Outside<D = E::D>>(
     alloc: Global,
     rules: E::Rules,

@@ -10,8 +10,8 @@ pub enum Unopened {
     Missing,
     /// A file couldn't be opened, or its disk failed. The outside counted it as a fault of the stores.
     Failed,
-    /// The bytes of a file, 0 for the first and 1 for the second, are no journal at this offset, or the record whose gate stands
-    /// there is none that the node takes up.
+    /// The bytes of a file, 0 for the first and 1 for the second, are no journal at this offset, or the record whose gate
+    /// stands there is none that the node takes up.
     Damaged { file: u8, at: u64 },
     /// Out of memory.
     Memory,

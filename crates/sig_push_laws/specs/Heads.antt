@@ -51,8 +51,8 @@ pub record IsShort (url : List ℕ) (authorization : Option (List ℕ)) : Type 0
   pub url_bytes : length url ≤ 2048
   pub shown_bytes : IfSome authorization (λ text. length text ≤ 8192)
 
--- a path that may be the target of a request (RFC 9112, section 3.2): it has no fragment, and a query that isn't empty after its
--- first `?`, where it has one
+-- a path that may be the target of a request (RFC 9112, section 3.2): it has no fragment, and a query that isn't empty after
+-- its first `?`, where it has one
 pub record IsTarget (path : List ℕ) : Type 0 where
   pub plain : has_fragment path ≡ false
   pub whole : before_first is_question_mark path ++ query_part (after_first is_question_mark path) ≡ path

@@ -34,8 +34,9 @@ struct Rounded<D: Disk> {
 /// Fetches for a receiver: reads the settings of this name, loads the store of this name, and makes so many rounds at most of
 /// the transmitter that the settings name, over a side of the outside (RFC 8936, sections 2.4 and 2.5).
 ///
-/// The settings are read first, then the store is opened, whose files have to be there, then the side is taken; what was opened is given back before the
-/// end, the settings as soon as they are read. After any fault of the rounds what was taken before it stays.
+/// The settings are read first, then the store is opened, whose files have to be there, then the side is taken; what was opened
+/// is given back before the end, the settings as soon as they are read. After any fault of the rounds what was taken before it
+/// stays.
 pub fn fetch<X: Outside>(
     alloc: Global,
     settings: &str,

@@ -20,8 +20,8 @@ use std::sync::Wait;
 /// Rounds of pushes of these streams, one after another: each has a round of its own, and where a push of it has no answer that
 /// round ends, and the next stream's follows.
 ///
-/// The side has a bound in time for each of them: a push that would come later has no answer, and so its stream's round ends. What
-/// is left of the stream stays owed.
+/// The side has a bound in time for each of them: a push that would come later has no answer, and so its stream's round ends.
+/// What is left of the stream stays owed.
 ///
 /// `Memory` says that memory ran out, in a push or in a turn; then the streams that are left have no round.
 pub fn push_rounds<R: Wait, K: Taker, S: Side>(

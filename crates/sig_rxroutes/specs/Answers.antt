@@ -1,5 +1,5 @@
--- The responses to the answers of a receiver, each of one status (RFC 8935, sections 2.2 and 2.3; RFC 9110, section 15). No cache
--- may keep one (RFC 9111, section 5.2.2.5).
+-- The responses to the answers of a receiver, each of one status (RFC 8935, sections 2.2 and 2.3; RFC 9110, section 15). No
+-- cache may keep one (RFC 9111, section 5.2.2.5).
 use Rattle.serde_json.specs.Data.{Data}
 use Rattle.serde_json.specs.Written.{compact_text}
 use Rattle.sig_http.specs.Answering.{empty, json}

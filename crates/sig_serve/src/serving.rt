@@ -31,8 +31,8 @@ use std::thread::Threads;
 /// listening place, and runs so many watches, or fewer where a watch reports that the door is shut, where the door or the
 /// store fails, or where memory runs out. It may wait for the door and the links.
 ///
-/// The settings are read first, then the store is opened, whose files have to be there, then the door; what was opened is given back before the end, the
-/// settings as soon as they are read.
+/// The settings are read first, then the store is opened, whose files have to be there, then the door; what was opened is given
+/// back before the end, the settings as soon as they are read.
 pub fn serve<R: Threads + Wait + Sync, X: Outside>(
     alloc: Global,
     rt: &R,

@@ -30,8 +30,8 @@ use std::thread::Threads;
 ///
 /// For those words it is 0 where as many watches ran as were asked for or the door is shut, 3 where the settings couldn't be
 /// read, 10 where they are refused, 5 where a file of the store couldn't be opened or its disk failed, 6 where the store isn't
-/// there or is damaged, 7 where the door couldn't be opened or it failed, 8 where two kept values differ, 9 out of memory, and 4 where the
-/// output stopped at the last line. For all other words it is the one of `run_plain`.
+/// there or is damaged, 7 where the door couldn't be opened or it failed, 8 where two kept values differ, 9 out of memory, and
+/// 4 where the output stopped at the last line. For all other words it is the one of `run_plain`.
 pub fn run<R: Threads + Wait + Sync, X: Outside, I: Source, O: Sink>(
     alloc: Global,
     rt: &R,

@@ -53,7 +53,8 @@ impl<R> SystemOutside<R> {
         }
     }
 
-    /// Why the last of the calls `settings`, `store`, `existing_store` and `door` failed that did, for the message to the operator.
+    /// Why the last of the calls `settings`, `store`, `existing_store` and `door` failed that did, for the message to the
+    /// operator.
     pub fn last_fault(&self) -> Option<OutsideFault>
         ensures { result ≡ self.now.last }
     {

@@ -8,8 +8,8 @@ use Rattle.sig_links.specs.Views.{SideView}
 use Rattle.sig_txnode.specs.Node.{NodeView}
 use Rattle.sig_tick.specs.Ticking.{IsTick, TellsTime, ticking}
 
--- a watch of the node was opened for the tick, and its turns are those of the tick; the attempts are noted, by any log that the schedule
--- stands for, and at Ok they are the answer
+-- a watch of the node was opened for the tick, and its turns are those of the tick; the attempts are noted, by any log that the
+-- schedule stands for, and at Ok they are the answer
 pub record Ticked {D : Type 0} (before after : SideView) (old new : NodeView D) (kept kept' : Kept) (result : Result (List Attempt) NodeFault) : Type 0 where
   pub base : new.base ≡ old.state
   pub rules : new.rules ≡ old.rules

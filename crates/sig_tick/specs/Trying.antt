@@ -81,8 +81,8 @@ AreTried rules by log (stream ∷ streams) before after turns made end =
     TriesFirst (λ ended between these attempt. Tries rules by log stream before between these attempt ended)
     (λ attempt between those later. AreTried rules by (log ++ option_to_list attempt) streams between after those later end) after turns made end
 
--- and these turns stand in the log of turns and are told by the taker, and the attempts are noted, by any log that the schedule stands
--- for
+-- and these turns stand in the log of turns and are told by the taker, and the attempts are noted, by any log that the schedule
+-- stands for
 pub record Tried (rules : Rules) (by : Asker) (streams : List (List ℕ)) (kept kept' : Kept) (before after : SideView)
     (turns turns' : List Turn) (told told' : Option TakerTold) (made : List Attempt) (end : Result ⊤ NodeFault) : Type 0 where
   pub more : List Turn

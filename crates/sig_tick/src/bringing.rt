@@ -17,8 +17,8 @@ use std::sync::Wait;
 
 /// Pushes these tokens one after another, and settles each by what its push settles, in a turn.
 ///
-/// It ends at the first push that has no answer, which is no fault of the tick unless memory ran out; and at the first turn that is
-/// refused, with that turn's fault.
+/// It ends at the first push that has no answer, which is no fault of the tick unless memory ran out; and at the first turn
+/// that is refused, with that turn's fault.
 pub fn bring<R: Wait, K: Taker, S: Side>(
     alloc: Global,
     rt: &R,

@@ -14,8 +14,8 @@ use sig_txnode::Taker;
 use std::alloc::Global;
 use std::sync::Wait;
 
-/// A tick over a taker: the time is read once, the streams of the clients are listed, and the push streams among them that are due
-/// are tried. Answers the attempts; they are noted, also those before a fault.
+/// A tick over a taker: the time is read once, the streams of the clients are listed, and the push streams among them that are
+/// due are tried. Answers the attempts; they are noted, also those before a fault.
 pub fn tick_over<R: Wait, K: Taker, S: Side>(
     alloc: Global,
     rt: &R,

@@ -39,7 +39,8 @@ AreRoundsOver rules by None before after pushes starved = (pushes ≡ []) × (af
 AreRoundsOver rules by (Some streams) before after pushes starved =
     AreRounds rules by streams before after pushes starved ⊎ ((pushes ≡ []) × (after ≡ before) × (starved ≡ true))
 
--- push rounds follow a turn, over the streams that its answer names and whose clients the rules have: under the number of its link, and at its time
+-- push rounds follow a turn, over the streams that its answer names and whose clients the rules have: under the number of its
+-- link, and at its time
 abbrev pub PushesAfter : Rules → Turn → List Turn → Bool → SideView → SideView → Type 0
 PushesAfter rules turn more starved before after =
     AreRoundsOver rules (record { link = turn.link; now = turn.now }) (streams_in rules turn.result) before after more starved

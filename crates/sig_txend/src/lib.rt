@@ -12,11 +12,11 @@
 //! ```
 //!
 //! Promised: each call makes one turn, at a time that the side tells before it; the response is that to its answer, 503 where
-//! the store failed; and a push round follows just those answers that name streams for one, over those of them whose clients the
-//! rules have, at the time of the turn. A fault of a push ends its round alone, and memory that runs out in it ends the link. Of a watch
-//! (`sig_watch::serve_watch::<Transmitter<D>, ..>`): the node that is handed back is one history from the state of the node
-//! that was handed in, under the same rules, and each link was served by these rules; opening it copies nothing that grows
-//! with what was published. Left out: how links are read and written.
+//! the store failed; and a push round follows just those answers that name streams for one, over those of them whose clients
+//! the rules have, at the time of the turn. A fault of a push ends its round alone, and memory that runs out in it ends the
+//! link. Of a watch (`sig_watch::serve_watch::<Transmitter<D>, ..>`): the node that is handed back is one history from the
+//! state of the node that was handed in, under the same rules, and each link was served by these rules; opening it copies
+//! nothing that grows with what was published. Left out: how links are read and written.
 #![tactic(auto)]
 
 mod end;
