@@ -13,7 +13,7 @@ CAEP, RISC, SSF = ("https://schemas.openid.net/secevent/" + name + "/event-type/
 SR = CAEP + "session-revoked"
 SUPPORTED = [CAEP + name for name in [
     "session-revoked", "token-claims-change", "credential-change", "assurance-level-change", "device-compliance-change",
-    "session-established", "session-presented",
+    "session-established", "session-presented", "risk-level-change",
 ]] + [RISC + name for name in [
     "account-credential-change-required", "account-purged", "account-disabled", "account-enabled", "identifier-changed",
     "identifier-recycled", "credential-compromise", "opt-in", "opt-out-initiated", "opt-out-cancelled", "opt-out-effective",
@@ -156,7 +156,7 @@ WANTS = [
 OPAQUE, EMAIL = '{"format":"opaque","id":"s-77"}', '{"email":"a@example.com","format":"email"}'
 PHONE = '{"format":"phone_number","phone_number":"+12065550100"}'
 ID = "6ba7b810-9dad-11d1-80b4-00c04fd430c8"
-PLAIN = {SUPPORTED[1]: '{"claims":{"role":"ro-admin"}}', SUPPORTED[2]: '{"change_type":"create","credential_type":"password"}', SUPPORTED[3]: '{"current_level":"nist-aal2"}', SUPPORTED[4]: '{"current_status":"compliant","previous_status":"not-compliant"}', RISC + "credential-compromise": '{"credential_type":"password"}'}
+PLAIN = {SUPPORTED[1]: '{"claims":{"role":"ro-admin"}}', SUPPORTED[2]: '{"change_type":"create","credential_type":"password"}', SUPPORTED[3]: '{"current_level":"nist-aal2"}', SUPPORTED[4]: '{"current_status":"compliant","previous_status":"not-compliant"}', RISC + "credential-compromise": '{"credential_type":"password"}', CAEP + "risk-level-change": '{"current_level":"HIGH","principal":"USER"}'}
 ON_IDENTIFIERS = [RISC + "identifier-changed", RISC + "identifier-recycled"]
 
 
@@ -174,7 +174,7 @@ def published(uri, payload="{}", subject=OPAQUE, named=ID):
 
 def of_type(uri):
     payload, subject = PLAIN.get(uri, "{}"), EMAIL if uri in ON_IDENTIFIERS else OPAQUE
-    return (f"Each of the 21 types that are published" if uri == SR else "", one(uri, payload, subject), published(uri, payload, subject))
+    return ("Each of the 22 types that are published" if uri == SR else "", one(uri, payload, subject), published(uri, payload, subject))
 
 
 def under(named, kept=ID):
@@ -183,7 +183,7 @@ def under(named, kept=ID):
 
 PUBLICATIONS = [
     *map(of_type, SUPPORTED),
-    *each("No other type is published: neither those of streams nor unknown ones, nor a name that is nearly one", one, [*OF_STREAMS, "https://example.com/x", "", "session-revoked", SR + "/", SR.upper(), CAEP + "sessions-revoked", RISC + "session-revoked", CAEP + "risk-level-change", " " + SR], member("events")),
+    *each("No other type is published: neither those of streams nor unknown ones, nor a name that is nearly one", one, [*OF_STREAMS, "https://example.com/x", "", "session-revoked", SR + "/", SR.upper(), CAEP + "sessions-revoked", RISC + "session-revoked", CAEP + "risk-level-changed", " " + SR], member("events")),
     ("RFC 8417, section 2: a token may have several events. A publication has one", news("{}"), member("events")),
     ("", news(f'{{"{SR}":{{}},"{SUPPORTED[-1]}":{{}}}}'), member("events")),
     ("", news(f'{{"{SR}":{{}},"https://example.com/x":{{}}}}'), member("events")),

@@ -10,6 +10,7 @@ COMMON = [
     ("reason_user", False, "reason"),
 ]
 STATUS = ["compliant", "not-compliant"]
+LEVELS = ["LOW", "MEDIUM", "HIGH"]
 CAEP = {
     "session-revoked": [],
     "token-claims-change": [("claims", True, "filled")],
@@ -30,6 +31,12 @@ CAEP = {
         ("fp_ua", False, "text"),
     ],
     "session-presented": [("ext_id", False, "text"), ("fp_ua", False, "text")],
+    "risk-level-change": [
+        ("principal", True, ["USER", "DEVICE", "SESSION", "TENANT", "ORG_UNIT", "GROUP"]),
+        ("current_level", True, LEVELS),
+        ("previous_level", False, LEVELS),
+        ("risk_reason", False, "text"),
+    ],
 }
 RISC = {
     "account-credential-change-required": [],

@@ -1,7 +1,10 @@
 """The session table: effects of events, and verdicts (this product's own; docs/FORMATS.md)."""
-from models.events import TYPES
+from models.events import PREFIX, TYPES
 from models.subjects import covers, same
 from models.values import dump
+
+# A type of CAEP that changes nothing, and adds no row (CAEP 1.0, section 3.8).
+RISK = PREFIX + "caep/event-type/risk-level-change"
 
 
 def change(row, uri, payload):
@@ -34,7 +37,7 @@ def change(row, uri, payload):
 
 def take(rows, subject, events):
     for uri in sorted(events):
-        if uri not in TYPES or "/ssf/" in uri:
+        if uri not in TYPES or "/ssf/" in uri or uri == RISK:
             continue
         if not any(same(row["subject"], subject) for row in rows):
             row = dict.fromkeys(["session", "account", "device", "opt"], "unseen")

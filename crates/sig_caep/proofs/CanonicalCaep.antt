@@ -20,6 +20,7 @@ named_rules types.AssuranceLevelChange = are_named (caep_table types.AssuranceLe
 named_rules types.DeviceComplianceChange = are_named (caep_table types.DeviceComplianceChange).rules refl
 named_rules types.SessionEstablished = are_named (caep_table types.SessionEstablished).rules refl
 named_rules types.SessionPresented = are_named (caep_table types.SessionPresented).rules refl
+named_rules types.RiskLevelChange = are_named (caep_table types.RiskLevelChange).rules refl
 
 -- what is written of an event that a payload says, where a text spells that payload
 pub caep_canonical : (e : CaepEvent) (name : List ℕ) (v : Data) → InOrder v → depth v ≤ max_depth → CaepIs e name v → IsCanonical (caep_payload e)

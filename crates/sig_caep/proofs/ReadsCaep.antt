@@ -8,7 +8,7 @@ use Rattle.sig_json.specs.Listed.{listed}
 use Rattle.sig_json.specs.Members.{AllHave, payload_checks}
 use Rattle.sig_json.specs.declared.members.PayloadFault.{PayloadFault}
 use Rattle.sig_json.proofs.Shapes.{Shape, text_shape, whole_shape, text_or_object_shape, filled_object_shape, text_or_texts_shape, listed_shape, listed-text, required_value, optional_value, required_has, optional_has, both_pass, pass_both, AllHave-passes, each_passes}
-use Rattle.sig_caep.specs.Lists.{change_text, changes, direction_text, directions, compliance_text, compliances, initiator_text, initiators}
+use Rattle.sig_caep.specs.Lists.{change_text, changes, direction_text, directions, compliance_text, compliances, initiator_text, initiators, principal_text, principals, risk_level_text, risk_levels}
 use Rattle.sig_caep.specs.Table.{caep_table, caep_types, type_text, type_named, common_rules}
 use Rattle.sig_caep.specs.Events.{type_of, kept_of, common_kept, CaepIs, kind_in, common_in, event_in, caep_checks, caep_by, caep_of, ReadsCaep}
 use Rattle.sig_caep.specs.declared.change.Change.{Change}
@@ -19,9 +19,13 @@ use Rattle.sig_caep.specs.declared.compliance.Compliance.{Compliance}
 use Rattle.sig_caep.specs.declared.compliance.Compliance.TheVariants.{Compliant, NotCompliant}
 use Rattle.sig_caep.specs.declared.initiator.Initiator.{Initiator}
 use Rattle.sig_caep.specs.declared.initiator.Initiator.TheVariants.{Admin, User, Policy, System}
+use Rattle.sig_caep.specs.declared.principal.Principal.{Principal}
+use Rattle.sig_caep.specs.declared.principal.Principal.TheVariants as whose
+use Rattle.sig_caep.specs.declared.risk_level.RiskLevel.{RiskLevel}
+use Rattle.sig_caep.specs.declared.risk_level.RiskLevel.TheVariants.{Low, Medium, High}
 use Rattle.sig_caep.specs.declared.common_members.Common.{Common}
 use Rattle.sig_caep.specs.declared.kind.CaepKind.{CaepKind}
-use Rattle.sig_caep.specs.declared.kind.CaepKind.TheVariants.{SessionRevoked, TokenClaimsChange, CredentialChange, AssuranceLevelChange, DeviceComplianceChange, SessionEstablished, SessionPresented}
+use Rattle.sig_caep.specs.declared.kind.CaepKind.TheVariants.{SessionRevoked, TokenClaimsChange, CredentialChange, AssuranceLevelChange, DeviceComplianceChange, SessionEstablished, SessionPresented, RiskLevelChange}
 use Rattle.sig_caep.specs.declared.event.CaepEvent.{CaepEvent}
 use Rattle.sig_caep.specs.declared.event_type.CaepType.{CaepType}
 use Rattle.sig_caep.specs.declared.event_type.CaepType.TheVariants as types
@@ -52,6 +56,21 @@ initiator_found User = refl
 initiator_found Policy = refl
 initiator_found System = refl
 
+principal_found : (x : Principal) → listed principal_text principals (principal_text x) ≡ Some x
+unfolding listed principal_text principals
+principal_found whose.User = refl
+principal_found whose.Device = refl
+principal_found whose.Session = refl
+principal_found whose.Tenant = refl
+principal_found whose.OrgUnit = refl
+principal_found whose.Group = refl
+
+risk_level_found : (x : RiskLevel) → listed risk_level_text risk_levels (risk_level_text x) ≡ Some x
+unfolding listed risk_level_text risk_levels
+risk_level_found Low = refl
+risk_level_found Medium = refl
+risk_level_found High = refl
+
 pub type_found : (x : CaepType) → type_named (type_text x) ≡ Some x
 unfolding listed
 type_found types.SessionRevoked = refl
@@ -61,6 +80,7 @@ type_found types.AssuranceLevelChange = refl
 type_found types.DeviceComplianceChange = refl
 type_found types.SessionEstablished = refl
 type_found types.SessionPresented = refl
+type_found types.RiskLevelChange = refl
 
 abbrev change_shape : Shape Change
 change_shape = listed_shape change_text changes Create change_found
@@ -73,6 +93,12 @@ compliance_shape = listed_shape compliance_text compliances Compliant compliance
 
 abbrev initiator_shape : Shape Initiator
 initiator_shape = listed_shape initiator_text initiators Admin initiator_found
+
+abbrev principal_shape : Shape Principal
+principal_shape = listed_shape principal_text principals whose.User principal_found
+
+abbrev risk_level_shape : Shape RiskLevel
+risk_level_shape = listed_shape risk_level_text risk_levels Low risk_level_found
 
 -- ---- where all members are there, the event is the one that is read
 
@@ -102,6 +128,12 @@ kind_is (SessionPresented ext_id fp_ua) v h =
     let a = optional_value text_shape (codes "ext_id") v ext_id h.0 in
     let b = optional_value text_shape (codes "fp_ua") v fp_ua h.1.0 in
     cc (a, b)
+kind_is (RiskLevelChange principal current_level previous_level risk_reason) v h =
+    let a = required_value principal_shape (codes "principal") v principal h.0 in
+    let b = required_value risk_level_shape (codes "current_level") v current_level h.1.0 in
+    let c = optional_value risk_level_shape (codes "previous_level") v previous_level h.1.1.0 in
+    let d = optional_value text_shape (codes "risk_reason") v risk_reason h.1.1.1.0 in
+    cc (a, b, c, d)
 
 common_is : (c : Common) (v : Data) → AllHave v common_rules (common_kept c) → common_in v ≡ c
 common_is c v h =
@@ -148,6 +180,17 @@ kind_has types.SessionEstablished v h =
 kind_has types.SessionPresented v h =
     let a = each_passes v (caep_table types.SessionPresented).rules h in
     (refl, (optional_has text_shape (codes "ext_id") v a.0, (optional_has text_shape (codes "fp_ua") v a.1.0, tt)))
+kind_has types.RiskLevelChange v h =
+    let a = each_passes v (caep_table types.RiskLevelChange).rules h in (
+      refl,
+      (
+        required_has principal_shape (codes "principal") v a.0,
+        (
+          required_has risk_level_shape (codes "current_level") v a.1.0,
+          (optional_has risk_level_shape (codes "previous_level") v a.1.1.0, (optional_has text_shape (codes "risk_reason") v a.1.1.1.0, tt)),
+        ),
+      ),
+    )
 
 common_has : (v : Data) → first_failing (payload_checks common_rules v) ≡ None → AllHave v common_rules (common_kept (common_in v))
 common_has v h =

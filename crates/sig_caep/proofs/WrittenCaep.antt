@@ -19,6 +19,7 @@ distinct_rules types.AssuranceLevelChange = (refl, (refl, (refl, tt)))
 distinct_rules types.DeviceComplianceChange = (refl, (refl, tt))
 distinct_rules types.SessionEstablished = (refl, (refl, (refl, (refl, tt))))
 distinct_rules types.SessionPresented = (refl, (refl, tt))
+distinct_rules types.RiskLevelChange = (refl, (refl, (refl, (refl, tt))))
 
 distinct_common : AreDistinct common_rules
 distinct_common = (refl, (refl, (refl, (refl, tt))))
@@ -31,6 +32,7 @@ apart_rules types.AssuranceLevelChange = (refl, (refl, (refl, tt)))
 apart_rules types.DeviceComplianceChange = (refl, (refl, tt))
 apart_rules types.SessionEstablished = (refl, (refl, (refl, (refl, tt))))
 apart_rules types.SessionPresented = (refl, (refl, tt))
+apart_rules types.RiskLevelChange = (refl, (refl, (refl, (refl, tt))))
 
 apart_common : (t : CaepType) → AreApart common_rules (caep_table t).rules
 apart_common types.SessionRevoked = (refl, (refl, (refl, (refl, tt))))
@@ -40,6 +42,7 @@ apart_common types.AssuranceLevelChange = (refl, (refl, (refl, (refl, tt))))
 apart_common types.DeviceComplianceChange = (refl, (refl, (refl, (refl, tt))))
 apart_common types.SessionEstablished = (refl, (refl, (refl, (refl, tt))))
 apart_common types.SessionPresented = (refl, (refl, (refl, (refl, tt))))
+apart_common types.RiskLevelChange = (refl, (refl, (refl, (refl, tt))))
 
 -- an event that a payload says, where a text spells it, is said by what is written of the event
 pub caep_written : (e : CaepEvent) (name : List ℕ) (v : Data) → InOrder v → depth v ≤ max_depth → CaepIs e name v → CaepIs e name (caep_payload e)

@@ -8,11 +8,11 @@ use Rattle.sig_json.specs.Json.{member_of}
 use Rattle.sig_json.specs.Members.{Kept, Words, Number, Canonical, AllHave, payload_checks, text_in, whole_in, value_of}
 use Rattle.sig_json.specs.Payloads.{put_all}
 use Rattle.sig_json.specs.declared.members.PayloadFault.{PayloadFault}
-use Rattle.sig_caep.specs.Lists.{change_text, change_in, direction_text, direction_in, compliance_text, compliance_in, initiator_text, initiator_in}
+use Rattle.sig_caep.specs.Lists.{change_text, change_in, direction_text, direction_in, compliance_text, compliance_in, initiator_text, initiator_in, principal_text, principal_in, risk_level_text, risk_level_in}
 use Rattle.sig_caep.specs.Table.{caep_table, type_named, common_rules}
 use Rattle.sig_caep.specs.declared.common_members.Common.{Common}
 use Rattle.sig_caep.specs.declared.kind.CaepKind.{CaepKind}
-use Rattle.sig_caep.specs.declared.kind.CaepKind.TheVariants.{SessionRevoked, TokenClaimsChange, CredentialChange, AssuranceLevelChange, DeviceComplianceChange, SessionEstablished, SessionPresented}
+use Rattle.sig_caep.specs.declared.kind.CaepKind.TheVariants.{SessionRevoked, TokenClaimsChange, CredentialChange, AssuranceLevelChange, DeviceComplianceChange, SessionEstablished, SessionPresented, RiskLevelChange}
 use Rattle.sig_caep.specs.declared.event.CaepEvent.{CaepEvent}
 use Rattle.sig_caep.specs.declared.event_type.CaepType.{CaepType}
 use Rattle.sig_caep.specs.declared.event_type.CaepType.TheVariants as types
@@ -27,6 +27,7 @@ type_of (AssuranceLevelChange namespace current_level change_direction) = types.
 type_of (DeviceComplianceChange previous_status current_status) = types.DeviceComplianceChange
 type_of (SessionEstablished acr amr ext_id fp_ua) = types.SessionEstablished
 type_of (SessionPresented ext_id fp_ua) = types.SessionPresented
+type_of (RiskLevelChange principal current_level previous_level risk_reason) = types.RiskLevelChange
 
 -- what is kept of the members of its type, in the order of the table
 abbrev pub kept_of : CaepKind → List (Option Kept)
@@ -40,6 +41,12 @@ kept_of (DeviceComplianceChange previous_status current_status) =
 kept_of (SessionEstablished acr amr ext_id fp_ua) =
     option_map (λ t. Words t) acr ∷ option_map (λ t. Canonical t) amr ∷ option_map (λ t. Words t) ext_id ∷ option_map (λ t. Words t) fp_ua ∷ []
 kept_of (SessionPresented ext_id fp_ua) = option_map (λ t. Words t) ext_id ∷ option_map (λ t. Words t) fp_ua ∷ []
+kept_of (RiskLevelChange principal current_level previous_level risk_reason) =
+    Some (Words (principal_text principal))
+    ∷ Some (Words (risk_level_text current_level))
+    ∷ option_map (λ x. Words (risk_level_text x)) previous_level
+    ∷ option_map (λ t. Words t) risk_reason
+    ∷ []
 
 -- what is kept of the common members
 abbrev pub common_kept : Common → List (Option Kept)
@@ -78,6 +85,12 @@ kind_in types.SessionEstablished v =
     (option_map text_in (member_of (codes "ext_id") v))
     (option_map text_in (member_of (codes "fp_ua") v))
 kind_in types.SessionPresented v = SessionPresented (option_map text_in (member_of (codes "ext_id") v)) (option_map text_in (member_of (codes "fp_ua") v))
+kind_in types.RiskLevelChange v =
+    RiskLevelChange
+    (principal_in (value_of (codes "principal") v))
+    (risk_level_in (value_of (codes "current_level") v))
+    (option_map risk_level_in (member_of (codes "previous_level") v))
+    (option_map text_in (member_of (codes "risk_reason") v))
 
 -- the common members, by the payload
 abbrev pub common_in : Data → Common

@@ -2,9 +2,9 @@
 use Rattle.std.specs.Prelude.{ℕ, List, [], ◌∷◌, codes, map, Option}
 use Rattle.sig_json.specs.Listed.{listed}
 use Rattle.sig_json.specs.Members.{AnyText, OneOf, Whole, TextOrObject, FilledObject, TextOrTexts, Rule, required, optional, TypeRow, row_of}
-use Rattle.sig_caep.specs.Lists.{change_text, changes, direction_text, directions, compliance_text, compliances, initiator_text, initiators}
+use Rattle.sig_caep.specs.Lists.{change_text, changes, direction_text, directions, compliance_text, compliances, initiator_text, initiators, principal_text, principals, risk_level_text, risk_levels}
 use Rattle.sig_caep.specs.declared.event_type.CaepType.{CaepType}
-use Rattle.sig_caep.specs.declared.event_type.CaepType.TheVariants.{SessionRevoked, TokenClaimsChange, CredentialChange, AssuranceLevelChange, DeviceComplianceChange, SessionEstablished, SessionPresented}
+use Rattle.sig_caep.specs.declared.event_type.CaepType.TheVariants.{SessionRevoked, TokenClaimsChange, CredentialChange, AssuranceLevelChange, DeviceComplianceChange, SessionEstablished, SessionPresented, RiskLevelChange}
 
 -- a row for each type; `namespace` may be missing, which is narrower in CAEP
 abbrev pub caep_table : CaepType → TypeRow
@@ -35,6 +35,14 @@ caep_table SessionEstablished =
     (optional (codes "acr") AnyText ∷ optional (codes "amr") TextOrTexts ∷ optional (codes "ext_id") AnyText ∷ optional (codes "fp_ua") AnyText ∷ [])
 -- session presented (section 3.7)
 caep_table SessionPresented = row_of (codes "session-presented") (optional (codes "ext_id") AnyText ∷ optional (codes "fp_ua") AnyText ∷ [])
+-- risk level change (section 3.8)
+caep_table RiskLevelChange =
+    row_of (codes "risk-level-change")
+    (required (codes "principal") (OneOf (map principal_text principals))
+    ∷ required (codes "current_level") (OneOf (map risk_level_text risk_levels))
+    ∷ optional (codes "previous_level") (OneOf (map risk_level_text risk_levels))
+    ∷ optional (codes "risk_reason") AnyText
+    ∷ [])
 
 abbrev pub type_text : CaepType → List ℕ
 type_text type = (caep_table type).name
@@ -49,6 +57,7 @@ caep_types =
     ∷ DeviceComplianceChange
     ∷ SessionEstablished
     ∷ SessionPresented
+    ∷ RiskLevelChange
     ∷ []
 
 -- the type with this name

@@ -19,6 +19,8 @@ pub enum CaepType {
     SessionEstablished,
     /// Section 3.7.
     SessionPresented,
+    /// Section 3.8.
+    RiskLevelChange,
 }
 
 impl Listed for CaepType {
@@ -39,6 +41,7 @@ impl Listed for CaepType {
             CaepType::DeviceComplianceChange,
             CaepType::SessionEstablished,
             CaepType::SessionPresented,
+            CaepType::RiskLevelChange,
         ]
     }
 
@@ -51,6 +54,7 @@ impl Listed for CaepType {
             CaepType::DeviceComplianceChange => "device-compliance-change",
             CaepType::SessionEstablished => "session-established",
             CaepType::SessionPresented => "session-presented",
+            CaepType::RiskLevelChange => "risk-level-change",
         }
     }
 }

@@ -1,7 +1,7 @@
 ghost use Rattle.std.specs.Prelude.{◌≡◌, ◌↔◌, IfOk, IsTrue};
 ghost use Rattle.sig_caep.specs.Events.{type_of};
 
-use crate::{CaepType, Change, Compliance, Direction};
+use crate::{CaepType, Change, Compliance, Direction, Principal, RiskLevel};
 use sig_json::{Copied, Memory, Same, Text, copy_optional};
 use std::alloc::Global;
 
@@ -55,6 +55,17 @@ pub enum CaepKind {
         /// The fingerprint of the user agent.
         fp_ua: Option<Text>,
     },
+    /// The risk level of a principal changed (section 3.8).
+    RiskLevelChange {
+        /// Whose level.
+        principal: Principal,
+        /// The level now.
+        current_level: RiskLevel,
+        /// The level before the event.
+        previous_level: Option<RiskLevel>,
+        /// Why it changed.
+        risk_reason: Option<Text>,
+    },
 }
 
 impl Drop for CaepKind {
@@ -93,6 +104,12 @@ impl Drop for CaepKind {
                 drop(ext_id);
                 drop(fp_ua);
             }
+            CaepKind::RiskLevelChange {
+                principal: _,
+                current_level: _,
+                previous_level: _,
+                risk_reason,
+            } => drop(risk_reason),
         }
     }
 }
@@ -110,6 +127,7 @@ impl CaepKind {
             CaepKind::DeviceComplianceChange { .. } => CaepType::DeviceComplianceChange,
             CaepKind::SessionEstablished { .. } => CaepType::SessionEstablished,
             CaepKind::SessionPresented { .. } => CaepType::SessionPresented,
+            CaepKind::RiskLevelChange { .. } => CaepType::RiskLevelChange,
         }
     }
 
@@ -150,6 +168,17 @@ impl CaepKind {
             CaepKind::SessionPresented { ext_id, fp_ua } => CaepKind::SessionPresented {
                 ext_id: copy_optional(alloc, ext_id)?,
                 fp_ua: copy_optional(alloc, fp_ua)?,
+            },
+            CaepKind::RiskLevelChange {
+                principal,
+                current_level,
+                previous_level,
+                risk_reason,
+            } => CaepKind::RiskLevelChange {
+                principal: *principal,
+                current_level: *current_level,
+                previous_level: *previous_level,
+                risk_reason: copy_optional(alloc, risk_reason)?,
             },
         })
     }
@@ -219,6 +248,17 @@ impl Same for CaepKind {
             } => other.is_session_established(acr, amr, ext_id, fp_ua),
             CaepKind::SessionPresented { ext_id, fp_ua } => other.is_session_presented(
                 ext_id, fp_ua,
+            ),
+            CaepKind::RiskLevelChange {
+                principal,
+                current_level,
+                previous_level,
+                risk_reason,
+            } => other.is_risk_level_change(
+                *principal,
+                *current_level,
+                *previous_level,
+                risk_reason,
             ),
         }
     }
@@ -306,6 +346,31 @@ impl CaepKind {
         match self {
             CaepKind::SessionPresented { ext_id, fp_ua } => {
                 ext_id.same(session) && fp_ua.same(agent)
+            }
+            _ => false,
+        }
+    }
+
+    fn is_risk_level_change(
+        &self,
+        whose: Principal,
+        now: RiskLevel,
+        before: Option<RiskLevel>,
+        why: &Option<Text>,
+    ) -> bool
+        ensures { IsTrue result ↔ (self.now ≡ CaepKind.RiskLevelChange whose now before why.now) }
+    {
+        match self {
+            CaepKind::RiskLevelChange {
+                principal,
+                current_level,
+                previous_level,
+                risk_reason,
+            } => {
+                principal.same(&whose)
+                    && current_level.same(&now)
+                    && previous_level.same(&before)
+                    && risk_reason.same(why)
             }
             _ => false,
         }

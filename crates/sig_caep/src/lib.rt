@@ -18,7 +18,9 @@ mod event_type;
 mod initiator;
 mod kind;
 pub mod laws;
+mod principal;
 mod reading;
+mod risk_level;
 mod threads;
 mod writing;
 
@@ -30,4 +32,6 @@ pub use event::{CaepEvent, from_json, to_json};
 pub use event_type::CaepType;
 pub use initiator::Initiator;
 pub use kind::CaepKind;
+pub use principal::Principal;
+pub use risk_level::RiskLevel;
 pub use sig_json::PayloadFault;

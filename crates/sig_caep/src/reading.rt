@@ -6,7 +6,7 @@ ghost use Rattle.sig_json.specs.Members.{payload_checks};
 ghost use Rattle.sig_caep.specs.Events.{kind_in};
 ghost use Rattle.sig_caep.specs.Table.{caep_table};
 
-use crate::{CaepKind, CaepType, Change, Compliance, Direction};
+use crate::{CaepKind, CaepType, Change, Compliance, Direction, Principal, RiskLevel};
 use serde_json::Value;
 use sig_json::{
     AnyText, FilledObject, OneOf, PayloadFault, TextOrTexts, optional_member, required_member,
@@ -32,6 +32,7 @@ impl CaepKind {
             CaepType::DeviceComplianceChange => CaepKind::device_compliance_change(alloc, payload),
             CaepType::SessionEstablished => CaepKind::session_established(alloc, payload),
             CaepType::SessionPresented => CaepKind::session_presented(alloc, payload),
+            CaepType::RiskLevelChange => CaepKind::risk_level_change(alloc, payload),
         }
     }
 
@@ -112,5 +113,21 @@ impl CaepKind {
         let ext_id = optional_member::<AnyText>(alloc, payload, "ext_id")?;
         let fp_ua = optional_member::<AnyText>(alloc, payload, "fp_ua")?;
         Ok(CaepKind::SessionPresented { ext_id, fp_ua })
+    }
+
+    fn risk_level_change(alloc: Global, payload: &Value) -> Result<CaepKind, PayloadFault>
+        ensures { Answers PayloadFault.Memory result
+            (decided (first_failing (payload_checks (caep_table CaepType.RiskLevelChange).rules (view payload.now))) (kind_in CaepType.RiskLevelChange (view payload.now))) }
+    {
+        let principal = required_member::<OneOf<Principal>>(alloc, payload, "principal")?;
+        let current_level = required_member::<OneOf<RiskLevel>>(alloc, payload, "current_level")?;
+        let previous_level = optional_member::<OneOf<RiskLevel>>(alloc, payload, "previous_level")?;
+        let risk_reason = optional_member::<AnyText>(alloc, payload, "risk_reason")?;
+        Ok(CaepKind::RiskLevelChange {
+            principal,
+            current_level,
+            previous_level,
+            risk_reason,
+        })
     }
 }

@@ -4,7 +4,7 @@ ghost use Rattle.sig_json.specs.Payloads.{put_all};
 ghost use Rattle.sig_caep.specs.Events.{kept_of, type_of};
 ghost use Rattle.sig_caep.specs.Table.{caep_table};
 
-use crate::{CaepKind, CaepType, Change, Compliance, Direction};
+use crate::{CaepKind, CaepType, Change, Compliance, Direction, Principal, RiskLevel};
 use sig_json::{
     AnyText, FilledObject, Memory, OneOf, Payload, Text, TextOrTexts, put_member,
     put_optional_member,
@@ -51,6 +51,19 @@ impl CaepKind {
             CaepKind::SessionPresented { ext_id, fp_ua } => put_presented(
                 alloc, payload, ext_id, fp_ua,
             ),
+            CaepKind::RiskLevelChange {
+                principal,
+                current_level,
+                previous_level,
+                risk_reason,
+            } => put_risk_change(
+                alloc,
+                payload,
+                principal,
+                current_level,
+                previous_level,
+                risk_reason,
+            ),
         }
     }
 }
@@ -94,4 +107,21 @@ fn put_presented(
 {
     put_optional_member::<AnyText>(alloc, payload, "ext_id", ext_id)?;
     put_optional_member::<AnyText>(alloc, payload, "fp_ua", fp_ua)
+}
+
+fn put_risk_change(
+    alloc: Global,
+    payload: &mut Payload,
+    principal: &Principal,
+    current_level: &RiskLevel,
+    previous_level: &Option<RiskLevel>,
+    risk_reason: &Option<Text>,
+) -> Result<(), Memory>
+    ensures { IfOk result (λ _. members_view payload.new.entries
+        ≡ put_all (caep_table CaepType.RiskLevelChange).rules (kept_of (CaepKind.RiskLevelChange principal.now current_level.now previous_level.now risk_reason.now)) (members_view payload.old.entries)) }
+{
+    put_member::<OneOf<Principal>>(alloc, payload, "principal", principal)?;
+    put_member::<OneOf<RiskLevel>>(alloc, payload, "current_level", current_level)?;
+    put_optional_member::<OneOf<RiskLevel>>(alloc, payload, "previous_level", previous_level)?;
+    put_optional_member::<AnyText>(alloc, payload, "risk_reason", risk_reason)
 }

@@ -133,6 +133,7 @@ short_uri (Caep caep_type.AssuranceLevelChange) = refl
 short_uri (Caep caep_type.DeviceComplianceChange) = refl
 short_uri (Caep caep_type.SessionEstablished) = refl
 short_uri (Caep caep_type.SessionPresented) = refl
+short_uri (Caep caep_type.RiskLevelChange) = refl
 short_uri (Risc risc_type.CredentialChangeRequired) = refl
 short_uri (Risc risc_type.AccountPurged) = refl
 short_uri (Risc risc_type.AccountDisabled) = refl

@@ -20,7 +20,7 @@ pub enum EventType {
 }
 
 // As many types as CAEP and RISC have; they stand before the two of a stream.
-const PUBLISHED: usize = 21;
+const PUBLISHED: usize = 22;
 
 impl Listed for EventType {
     ghost use Rattle.sig_event.specs.declared.event_type.EventType.TheVariants.{Verification};
@@ -41,6 +41,7 @@ impl Listed for EventType {
             EventType::Caep(CaepType::DeviceComplianceChange),
             EventType::Caep(CaepType::SessionEstablished),
             EventType::Caep(CaepType::SessionPresented),
+            EventType::Caep(CaepType::RiskLevelChange),
             EventType::Risc(RiscType::CredentialChangeRequired),
             EventType::Risc(RiscType::AccountPurged),
             EventType::Risc(RiscType::AccountDisabled),
@@ -91,6 +92,8 @@ fn caep_uri(event_type: CaepType) -> &'static str
             "https://schemas.openid.net/secevent/caep/event-type/session-established",
         CaepType::SessionPresented =>
             "https://schemas.openid.net/secevent/caep/event-type/session-presented",
+        CaepType::RiskLevelChange =>
+            "https://schemas.openid.net/secevent/caep/event-type/risk-level-change",
     }
 }
 
@@ -142,7 +145,7 @@ impl EventType {
         value_named(uri)
     }
 
-    /// The 21 types that a transmitter publishes, in order: those of CAEP and those of RISC.
+    /// The 22 types that a transmitter publishes, in order: those of CAEP and those of RISC.
     #[tactic(auto, unfolding(crate::specs::Types::event_types, crate::specs::Types::published_types))]
     pub fn published() -> &'static [EventType]
         ensures { result.now ≡ published_types }

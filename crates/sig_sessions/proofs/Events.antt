@@ -10,12 +10,14 @@ use Rattle.sig_json.specs.Checks.{or_else}
 use Rattle.sig_subject.specs.declared.subject.Subject.{Subject}
 use Rattle.sig_subject.specs.Matching.{is_covering, is_identical}
 use Rattle.sig_subject.proofs.Identity.{decides_identity}
+use Rattle.sig_caep.specs.declared.kind.CaepKind.{CaepKind}
+use Rattle.sig_caep.specs.declared.kind.CaepKind.TheVariants as caep
 use Rattle.sig_event.specs.declared.event.Event.{Event}
 use Rattle.sig_event.specs.declared.event.Event.TheVariants as event
 use Rattle.sig_sessions.specs.declared.row.Row.{Row}
 use Rattle.sig_sessions.specs.declared.state.State.{State}
 use Rattle.sig_sessions.specs.declared.update.Update.{Update}
-use Rattle.sig_sessions.specs.Effects.{has_effect, state_after, level_after, told}
+use Rattle.sig_sessions.specs.Effects.{has_effect, caep_has_effect, state_after, after_caep, level_after, told, told_by}
 use Rattle.sig_sessions.specs.Table.{state_of, with_state, unseen, has_row, with_row, changed, changed_where_covered, after_event, after_events}
 use Rattle.sig_sessions.specs.Changes.{updated_by}
 use Rattle.sig_sessions.specs.Walks.{last_told, states_after, changed_by_all, changed_by_all_where_covered}
@@ -26,15 +28,35 @@ pub or_parts : (a b : Bool) → (a || b) ≡ false → (a ≡ false) × (b ≡ f
 or_parts true b h = cc
 or_parts false b h = (refl, h)
 
+same_caep : (k : CaepKind) (s : State) → caep_has_effect k ≡ false → after_caep k s ≡ s
+same_caep caep.SessionRevoked s h = cc
+same_caep (caep.TokenClaimsChange claims) s h = cc
+same_caep (caep.CredentialChange credential change) s h = cc
+same_caep (caep.AssuranceLevelChange namespace level direction) s h = cc
+same_caep (caep.DeviceComplianceChange before after) s h = cc
+same_caep (caep.SessionEstablished acr amr ext_id fp_ua) s h = cc
+same_caep (caep.SessionPresented ext_id fp_ua) s h = cc
+same_caep (caep.RiskLevelChange principal now before reason) s h = refl
+
 same_state : (e : Event) (s : State) → has_effect e ≡ false → state_after e s ≡ s
-same_state (event.Caep e) s h = cc
+same_state (event.Caep e) s h = same_caep e.kind s h
 same_state (event.Risc e) s h = cc
 same_state (event.Verification state) s h = refl
 same_state (event.StreamUpdated status reason) s h = refl
 same_state (event.Other uri) s h = refl
 
+none_told : (k : CaepKind) (level : Option (List ℕ)) → caep_has_effect k ≡ false → or_else (told_by k) level ≡ level
+none_told caep.SessionRevoked level h = cc
+none_told (caep.TokenClaimsChange claims) level h = cc
+none_told (caep.CredentialChange credential change) level h = cc
+none_told (caep.AssuranceLevelChange namespace current direction) level h = cc
+none_told (caep.DeviceComplianceChange before after) level h = cc
+none_told (caep.SessionEstablished acr amr ext_id fp_ua) level h = cc
+none_told (caep.SessionPresented ext_id fp_ua) level h = cc
+none_told (caep.RiskLevelChange principal now before reason) level h = refl
+
 same_level : (e : Event) (level : Option (List ℕ)) → has_effect e ≡ false → level_after e level ≡ level
-same_level (event.Caep e) level h = cc
+same_level (event.Caep e) level h = none_told e.kind level h
 same_level (event.Risc e) level h = cc
 same_level (event.Verification state) level h = refl
 same_level (event.StreamUpdated status reason) level h = refl

@@ -195,6 +195,7 @@ told_by_kind (caep.AssuranceLevelChange namespace level direction) v order deep 
 told_by_kind (caep.DeviceComplianceChange before after) v order deep h = tt
 told_by_kind (caep.SessionEstablished acr amr ext_id fp_ua) v order deep h = tt
 told_by_kind (caep.SessionPresented ext_id fp_ua) v order deep h = tt
+told_by_kind (caep.RiskLevelChange principal now before reason) v order deep h = tt
 
 told_utf8 : (e : Event) (s : Subject) → IsProperEvent e s → IfSome (told e) IsUtf8
 told_utf8 (event.Caep e) s h = told_by_kind e.kind h.0 (spelled_in_order _ h.0 h.1) (spelled_depth _ h.0 h.1) h.2.1.2.members

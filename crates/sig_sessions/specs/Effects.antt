@@ -69,6 +69,7 @@ after_caep (caep.AssuranceLevelChange namespace level direction) s = s
 after_caep (caep.DeviceComplianceChange before after) s = with_device (device_of after) s
 after_caep (caep.SessionEstablished acr amr ext_id fp_ua) s = with_session session.Live s
 after_caep (caep.SessionPresented ext_id fp_ua) s = with_session (presented s.session) s
+after_caep (caep.RiskLevelChange principal now before reason) s = s
 
 -- events of RISC (RISC 1.0, section 2)
 abbrev pub after_risc : RiscEvent → State → State
@@ -104,6 +105,7 @@ told_by (caep.AssuranceLevelChange namespace current direction) = Some current
 told_by (caep.DeviceComplianceChange before after) = None
 told_by (caep.SessionEstablished acr amr ext_id fp_ua) = None
 told_by (caep.SessionPresented ext_id fp_ua) = None
+told_by (caep.RiskLevelChange principal now before reason) = None
 
 -- the level that an event tells
 abbrev pub told : Event → Option (List ℕ)
@@ -117,9 +119,14 @@ told (event.Other uri) = None
 abbrev pub level_after : Event → Option (List ℕ) → Option (List ℕ)
 level_after e level = or_else (told e) level
 
+-- whether an event of CAEP is one that has an effect: a risk level has none (CAEP 1.0, section 3.8)
+abbrev pub caep_has_effect : CaepKind → Bool
+caep_has_effect (caep.RiskLevelChange principal now before reason) = false
+caep_has_effect kind = true
+
 -- whether an event is one that has an effect
 abbrev pub has_effect : Event → Bool
-has_effect (event.Caep e) = true
+has_effect (event.Caep e) = caep_has_effect e.kind
 has_effect (event.Risc e) = true
 has_effect (event.Verification state) = false
 has_effect (event.StreamUpdated status reason) = false

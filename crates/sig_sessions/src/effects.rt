@@ -17,9 +17,17 @@ pub(crate) fn has_effect(event: &Event) -> bool
     ensures { result ≡ spec.has_effect event.now }
 {
     match event {
-        Event::Caep(_) | Event::Risc(_) => true,
+        Event::Caep(event) => caep_has_effect(&event.kind),
+        Event::Risc(_) => true,
         Event::Verification { .. } | Event::StreamUpdated { .. } | Event::Other { .. } => false,
     }
+}
+
+// A risk level has no effect (CAEP 1.0, section 3.8).
+fn caep_has_effect(kind: &CaepKind) -> bool
+    ensures { result ≡ spec.caep_has_effect kind.now }
+{
+    !matches!(kind, CaepKind::RiskLevelChange { .. })
 }
 
 /// Whether one of the events has an effect.
@@ -92,6 +100,7 @@ fn after_caep(kind: &CaepKind, state: State) -> State
         },
         CaepKind::SessionEstablished { .. } => with_session(Session::Live, state),
         CaepKind::SessionPresented { .. } => with_session(presented(state.session), state),
+        CaepKind::RiskLevelChange { .. } => state,
     }
 }
 

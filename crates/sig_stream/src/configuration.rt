@@ -15,7 +15,7 @@ use std::alloc::Global;
 ///
 /// It has `aud`, a text where there is one and else a list; `delivery`; `description`, where it is given;
 /// `events_delivered`, the supported types that are requested, in supported order, and all of them where nothing was
-/// requested; `events_requested`, where it is given; `events_supported`, the 21 types that transmitters publish; `iss`;
+/// requested; `events_requested`, where it is given; `events_supported`, the 22 types that transmitters publish; `iss`;
 /// `min_verification_interval`, in seconds; and `stream_id`. The delivery has its `method` and `endpoint_url`, which for
 /// poll is `base`, `/poll/` and the stream's name, and for push the `authorization_header`, where it is given.
 pub fn conf_json(alloc: Global, conf: &StreamConf, base: &Text) -> Result<Value, Memory>

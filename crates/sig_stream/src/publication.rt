@@ -20,7 +20,7 @@ use uuid::Uuid;
 /// `Member` names the first that is missing or wrong, in the order `body`, `publish_id`, `sub_id`, `events`: the body is
 /// an object; the publication's name is a text that spells a UUID (RFC 9562, section 4), which is kept with hyphens and
 /// in lower case; the subject is one (RFC 9493); and `events` is an object with exactly one member, whose name is the URI
-/// of one of the 21 types that transmitters publish, and whose value is a payload of that type about that subject.
+/// of one of the 22 types that transmitters publish, and whose value is a payload of that type about that subject.
 #[tactic(auto, unfolding(crate::specs::Publications::publish_of))]
 pub fn publish_of(alloc: Global, body: &Value) -> Result<Call, PublishFault>
     ensures { Answers PublishFault.Memory result (spec.publish_of (view body.now)) }
