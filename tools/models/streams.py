@@ -10,6 +10,8 @@ POLL, PUSH = "urn:ietf:rfc:8936", "urn:ietf:rfc:8935"
 PORTS = {"http": 80, "https": 443}
 PUBLISHED = [PREFIX + "caep/event-type/" + name for name in CAEP] + [PREFIX + "risc/event-type/" + name for name in RISC]
 URL = r"(https?)://([A-Za-z0-9.-]+)(?::([1-9][0-9]{0,4}))?(/[!-~]*)?"
+# The bytes of a URL and of an authorization at most.
+URL_BYTES, AUTHORIZATION_BYTES = 2048, 8192
 HYPHENATED = "[0-9A-Fa-f]{8}-[0-9A-Fa-f]{4}-[0-9A-Fa-f]{4}-[0-9A-Fa-f]{4}-[0-9A-Fa-f]{12}"
 # A UUID in one of its four spellings (RFC 9562, section 4); the prefix of a URN has any case (RFC 8141, section 3.1).
 UUID = rf"[0-9A-Fa-f]{{32}}|{HYPHENATED}|(?i:urn:uuid:){HYPHENATED}|\{{{HYPHENATED}\}}"
@@ -31,7 +33,10 @@ def is_texts(value):
 def check_url(url, gateway):
     """Where a push stream's tokens go: a URL of the one form that is taken (RFC 3986, section 3)."""
     found = re.fullmatch(URL, url, re.A) if is_text(url) else None
-    if found is None or int(found[3] or 1) > 65535 or found[1] == "https" and not gateway:
+    # no target of a request has a fragment (RFC 9110, section 7.1)
+    if found is None or len(url) > URL_BYTES or "#" in url:
+        refuse("endpoint")
+    if int(found[3] or 1) > 65535 or found[1] == "https" and not gateway:
         refuse("endpoint")
     scheme, host, port, path = found.groups()
     return {"host": host, "path": path or "/", "port": int(port or PORTS[scheme]), "secure": scheme == "https", "url": url}
@@ -46,7 +51,7 @@ def check_delivery(given, gateway):
         refuse("method")
     read = check_url(given.get("endpoint_url"), gateway)
     shown = given.get("authorization_header", "")
-    need(is_text(shown) and re.fullmatch("[ -~]*", shown), "authorization_header")
+    need(is_text(shown) and len(shown) <= AUTHORIZATION_BYTES and re.fullmatch("[ -~]*", shown), "authorization_header")
     return dict(read, method="push", authorization=given.get("authorization_header"))
 
 

@@ -1,7 +1,6 @@
 -- What is wanted in a text is no larger than a few times the text, and its endpoint is read of its url.
 use Rattle.std.proofs.Common.{◌≡◌, ◌∙◌, ap, subst, List, ◌∷◌, ℕ, ◌+◌, ◌≤◌, Bool, true, false, not, ◌||◌, Option, Some, None, IfSome, Result, Ok, Err, length, if◌then◌else◌, refl, arith}
 use Rattle.std.specs.Prelude.{ok_or, option_and_then, option_map, codes}
-use Rattle.std.specs.List.{list_all}
 use Rattle.std.proofs.lemmas.List.Sums.{sum_by-cons}
 use Rattle.serde_json.specs.Data.{Data, null, boolean, number, string, array, object, Items, no_items, item}
 use Rattle.serde_json.specs.Find.{as_array, as_str}
@@ -17,7 +16,7 @@ use Rattle.sig_stream.specs.declared.want_fault.WantFault.{WantFault}
 use Rattle.sig_stream.specs.declared.want_fault.WantFault.TheVariants as fault
 use Rattle.sig_stream.specs.Endpoints.{endpoint_of}
 use Rattle.sig_stream.specs.Steps.{◌>>=◌, where_given}
-use Rattle.sig_stream.specs.Wants.{delivery_at, delivery_by, field_at, field_of, if_reached, is_field_byte, is_text, poll_method, push_method, push_of, reached, text_at, text_before, texts_at, texts_of, want_by, want_of}
+use Rattle.sig_stream.specs.Wants.{delivery_at, delivery_by, endpoint_in, field_at, field_of, if_reached, is_endpoint_url, is_field, is_text, poll_method, push_method, push_of, reached, text_at, text_before, texts_at, texts_of, want_by, want_of}
 use Rattle.sig_history.specs.Sizes.{bytes_of, delivery_bytes, given_bytes, requested_bytes, requested_items}
 use Rattle.sig_calls.specs.Proper.{IsProperWant, IsSpelled, wanted_bytes}
 use Rattle.sig_bounds.specs.Sizes.{data_size, items_size}
@@ -103,7 +102,7 @@ field_is false text s h = cc
 field_read : (name : List ℕ) (d : Data) (s : List ℕ) → field_at name d ≡ Ok s → length s ≤ data_size d
 field_read name d s h =
     let (text, str, field) = then_some field_of (as_str d) s (or_some (option_and_then field_of (as_str d)) (fault.Member name) s h) in
-    let same : text ≡ s = field_is (list_all is_field_byte text) text s field in
+    let same : text ≡ s = field_is (is_field text) text s field in
     subst (λ t. length t ≤ data_size d) same (omega (arith, text_small d text str))
 
 member_text_small : (name : List ℕ) (d : Data) (s : List ℕ) → text_member name d ≡ Some s → length s ≤ data_size d
@@ -122,10 +121,14 @@ reached_is : (t : Bool) (e f : Endpoint) → ◌≡◌ {A = Option Endpoint} (if
 reached_is true e f h = cc
 reached_is false e f h = cc
 
+given_in : (t : Bool) (o : Option Endpoint) (e : Endpoint) → (if t then o else None) ≡ Some e → o ≡ Some e
+given_in true o e h = h
+given_in false o e h = cc
+
 reached_spelled : (gateway : Bool) (url : List ℕ) (e : Endpoint) → reached gateway url ≡ Some e → endpoint_of url ≡ Some e
 reached_spelled gateway url e h =
-    let (f, spelled, here) = then_some (if_reached gateway) (endpoint_of url) e h in
-    spelled ∙ ap (λ g. Some g) (reached_is (not f.secure || gateway) f e here)
+    let (f, given, here) = then_some (if_reached gateway) (endpoint_in url) e h in
+    given_in (is_endpoint_url url) (endpoint_of url) f given ∙ ap (λ g. Some g) (reached_is (not f.secure || gateway) f e here)
 
 given_small : (n : ℕ) (text : Option (List ℕ)) → IfSome text (λ s. length s ≤ n) → given_bytes text ≤ n
 given_small n None h = omega arith

@@ -21,8 +21,8 @@ use Rattle.sig_terms.specs.declared.token.Token.{Token}
 use Rattle.sig_stream.specs.Endpoints.{Spells, SpellsPath, scheme_of}
 use Rattle.sig_stream.proofs.EndpointReading.{reads_endpoints}
 use Rattle.sig_delivery.specs.Pushes.{path_in, push_kind, push_of}
-use Rattle.sig_push_laws.specs.Heads.{IsPushTo, IsSafe, IsShort, IsTarget, WantedPushesAreReadBack, at_endpoint, is_inline, is_visible}
-use Rattle.sig_push_laws.proofs.SafeLemmas.{all_weaker, read_safe}
+use Rattle.sig_push_laws.specs.Heads.{IsPushTo, IsSafe, IsShort, IsWhole, WantedHeadsFit, WantedPushesAreReadBack, at_endpoint, is_inline, is_visible}
+use Rattle.sig_push_laws.proofs.SafeLemmas.{all_weaker, read_safe, read_short}
 use Rattle.sig_push_laws.proofs.WantedLemmas.{IsRead, wanted_read}
 
 -- ---- bytes of each class
@@ -138,15 +138,15 @@ unfolding is_token_byte
 post_token = AllPass-from_list_all is_token_byte (codes "POST") refl
 
 readable : (endpoint : Endpoint) (url : List ℕ) (authorization : Option (List ℕ)) (token : Token) (key : Key) → IsSafe endpoint authorization
-    → IsWithin (length url) endpoint → IsShort url authorization → IsTarget endpoint.path → IsPushTo endpoint authorization token key
+    → IsWithin (length url) endpoint → IsShort url authorization → IsWhole endpoint.path → IsPushTo endpoint authorization token key
     → IsReadableRequest endpoint.place (at_endpoint endpoint (push_of token key)) push_kind false
-readable endpoint url authorization token key safe small short target push =
+readable endpoint url authorization token key safe small short entire push =
     let request : Request = at_endpoint endpoint (push_of token key) in
     let (rest, rooted) = safe.rooted in
     let url_short : length url ≤ 2048 = short.url_bytes in
     let host_short : length endpoint.place.host ≤ length url = small.host in
     let path_low : length endpoint.path ≤ length url + 1 = small.path in
-    let whole : target_of request ≡ endpoint.path = target.whole in
+    let whole : target_of request ≡ endpoint.path = entire in
     record {
       method = (omega arith, post_token);
       target = subst (λ t. (0 < length t) × AllPass is_uri_byte t) (sym whole) (
@@ -156,7 +156,7 @@ readable endpoint url authorization token key safe small short target push =
       text = subst IsUtf8 (sym whole) (IsUtf8-are_ascii endpoint.path (ascii_visible endpoint.path safe.path));
       path = none_before is_question_mark endpoint.path;
       origin = path_origin endpoint.path rest rooted;
-      plain = ap has_fragment whole ∙ target.plain;
+      plain = ap has_fragment whole ∙ safe.plain;
       host = AllPass-from_list_all is_value_byte endpoint.place.host (all_weaker is_visible is_value_byte visible_value endpoint.place.host safe.host);
       port = safe.most;
       bearer = subst (λ o. IfSome o (AllPass is_value_byte)) (sym push.shows) (values authorization safe.shown);
@@ -171,13 +171,28 @@ readable endpoint url authorization token key safe small short target push =
     values None h = tt
     values (Some text) h = AllPass-from_list_all is_value_byte text (all_weaker is_inline is_value_byte inline_value text h)
 
-pub pushes_read_back : WantedPushesAreReadBack
-pushes_read_back gateway body endpoint url authorization token key rest wants short target push =
+pub heads_fit : WantedHeadsFit
+heads_fit gateway body endpoint url authorization token key wants push =
     let read : IsRead endpoint url authorization = wanted_read gateway body endpoint url authorization wants in
     let safe : IsSafe endpoint authorization = read_safe endpoint url authorization read in
+    let short : IsShort url authorization = read_short endpoint url authorization read in
+    let small : IsWithin (length url) endpoint = spelled_within endpoint url ((reads_endpoints url endpoint).1 read.spelled) in
+    let url_short : length url ≤ 2048 = short.url_bytes in
+    let host_short : length endpoint.place.host ≤ length url = small.host in
+    let path_low : length endpoint.path ≤ length url + 1 = small.path in
+    let same : length (target_of (push_of token key)) ≡ length endpoint.path =
+    ap length (append-nil (push_of token key).path ∙ ap path_in push.leads) in
+    spelling_short endpoint.place (push_of token key) (omega arith) safe.most (omega arith) refl
+    (subst (λ o. IfSome o (λ text. length text ≤ 8192)) (sym push.shows) short.shown_bytes) push.fits
+
+pub pushes_read_back : WantedPushesAreReadBack
+pushes_read_back gateway body endpoint url authorization token key rest wants whole push =
+    let read : IsRead endpoint url authorization = wanted_read gateway body endpoint url authorization wants in
+    let safe : IsSafe endpoint authorization = read_safe endpoint url authorization read in
+    let short : IsShort url authorization = read_short endpoint url authorization read in
     let small : IsWithin (length url) endpoint = spelled_within endpoint url ((reads_endpoints url endpoint).1 read.spelled) in
     let request : Request = at_endpoint endpoint (push_of token key) in
     let written : request_spelling endpoint.place (push_of token key) push_kind false ≡ request_spelling endpoint.place request push_kind false =
     ap (λ p. request_spelling endpoint.place (record (push_of token key) { path = p }) push_kind false) (ap path_in push.leads)
-    ∙ same_spelling endpoint.place (push_of token key) (before_first is_question_mark endpoint.path) (after_first is_question_mark endpoint.path) endpoint.path target.whole in
-    rw written (request_read_back endpoint.place request push_kind false rest (readable endpoint url authorization token key safe small short target push))
+    ∙ same_spelling endpoint.place (push_of token key) (before_first is_question_mark endpoint.path) (after_first is_question_mark endpoint.path) endpoint.path whole in
+    rw written (request_read_back endpoint.place request push_kind false rest (readable endpoint url authorization token key safe small short whole push))

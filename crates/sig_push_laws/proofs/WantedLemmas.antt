@@ -1,7 +1,6 @@
 -- The endpoint of a want is read of its URL, and its authorization is a field's text.
 use Rattle.std.proofs.Common.{◌≡◌, ◌∙◌, ap, subst, List, ℕ, Bool, true, false, not, ◌||◌, Option, Some, None, IfSome, Result, Ok, Err, if◌then◌else◌, refl}
 use Rattle.std.specs.Prelude.{ok_or, option_and_then, codes}
-use Rattle.std.specs.List.{list_all}
 use Rattle.serde_json.specs.Data.{Data}
 use Rattle.serde_json.specs.Find.{as_str}
 use Rattle.sig_json.specs.Answers.{result_map}
@@ -15,7 +14,7 @@ use Rattle.sig_stream.specs.declared.want_fault.WantFault.{WantFault}
 use Rattle.sig_stream.specs.declared.want_fault.WantFault.TheVariants as fault
 use Rattle.sig_stream.specs.Endpoints.{endpoint_of}
 use Rattle.sig_stream.specs.Steps.{◌>>=◌, where_given}
-use Rattle.sig_stream.specs.Wants.{delivery_at, delivery_by, field_at, field_of, if_reached, is_field_byte, is_text, poll_method, push_method, push_of, reached, text_at, texts_at, want_by, want_of}
+use Rattle.sig_stream.specs.Wants.{delivery_at, delivery_by, endpoint_in, field_at, field_of, if_reached, is_endpoint_url, is_field, is_text, poll_method, push_method, push_of, reached, text_at, texts_at, want_by, want_of}
 use Rattle.sig_push_laws.specs.Heads.{WantsPush}
 
 -- ---- steps that gave something
@@ -46,43 +45,50 @@ given_ok {T = T} {E = E} P read (Some d) x each h = by (read d) refl h
 
 -- ---- the delivery
 
--- the URL spells the endpoint, and the authorization is the text of a field
+-- the URL may be given and spells the endpoint, and the authorization is the text of a field
 pub record IsRead (endpoint : Endpoint) (url : List ℕ) (authorization : Option (List ℕ)) : Type 0 where
+  pub taken : is_endpoint_url url ≡ true
   pub spelled : endpoint_of url ≡ Some endpoint
-  pub shown : IfSome authorization (λ text. list_all is_field_byte text ≡ true)
+  pub shown : IfSome authorization (λ text. is_field text ≡ true)
 
 abbrev IsReadDelivery : Delivery → Type 0
 IsReadDelivery Poll = Unit {0}
 IsReadDelivery (Push endpoint url authorization) = IsRead endpoint url authorization
 
-field_is : (t : Bool) (text s : List ℕ) → list_all is_field_byte text ≡ t → ◌≡◌ {A = Option (List ℕ)} (if t then Some text else None) (Some s)
-    → list_all is_field_byte s ≡ true
-field_is true text s passes h = let same : text ≡ s = cc in subst (λ u. list_all is_field_byte u ≡ true) same passes
+field_is : (t : Bool) (text s : List ℕ) → is_field text ≡ t → ◌≡◌ {A = Option (List ℕ)} (if t then Some text else None) (Some s) → is_field s ≡ true
+field_is true text s passes h = let same : text ≡ s = cc in subst (λ u. is_field u ≡ true) same passes
 field_is false text s passes h = cc h
 
-field_read : (name : List ℕ) (d : Data) (s : List ℕ) → field_at name d ≡ Ok s → list_all is_field_byte s ≡ true
+field_read : (name : List ℕ) (d : Data) (s : List ℕ) → field_at name d ≡ Ok s → is_field s ≡ true
 field_read name d s h =
     let (text, str, field) = then_some field_of (as_str d) s (or_some (option_and_then field_of (as_str d)) (fault.Member name) s h) in
-    field_is (list_all is_field_byte text) text s refl field
+    field_is (is_field text) text s refl field
 
 reached_is : (t : Bool) (e f : Endpoint) → ◌≡◌ {A = Option Endpoint} (if t then Some e else None) (Some f) → e ≡ f
 reached_is true e f h = cc
 reached_is false e f h = cc
 
-reached_spelled : (gateway : Bool) (url : List ℕ) (e : Endpoint) → reached gateway url ≡ Some e → endpoint_of url ≡ Some e
+given_in : (t : Bool) (o : Option Endpoint) (e : Endpoint) → (if t then o else None) ≡ Some e → (t ≡ true) × (o ≡ Some e)
+given_in true o e h = (refl, h)
+given_in false o e h = cc
+
+reached_spelled : (gateway : Bool) (url : List ℕ) (e : Endpoint) → reached gateway url ≡ Some e → (is_endpoint_url url ≡ true) × (endpoint_of url ≡ Some e)
 reached_spelled gateway url e h =
-    let (f, spelled, here) = then_some (if_reached gateway) (endpoint_of url) e h in
-    spelled ∙ ap (λ g. Some g) (reached_is (not f.secure || gateway) f e here)
+    let (f, given, here) = then_some (if_reached gateway) (endpoint_in url) e h in
+    let (taken, spelled) = given_in (is_endpoint_url url) (endpoint_of url) f given in
+    (taken, spelled ∙ ap (λ g. Some g) (reached_is (not f.secure || gateway) f e here))
 
 push_read : (gateway : Bool) (d : Data) (delivery : Delivery) → push_of gateway d ≡ Ok delivery → IsReadDelivery delivery
 push_read gateway d delivery h =
     let (url, at, rest) = then_ok (ok_or (text_member (codes "endpoint_url") d) fault.Endpoint) _ delivery h in
     let (endpoint, goes, last) = then_ok (ok_or (reached gateway url) fault.Endpoint) _ delivery rest in
     let (authorization, shown, made) = then_ok (where_given (field_at (codes "authorization_header")) (member_of (codes "authorization_header") d)) _ delivery last in
+    let (taken, spelled) = reached_spelled gateway url endpoint (or_some (reached gateway url) fault.Endpoint endpoint goes) in
     subst IsReadDelivery (same_ok {T = Delivery} {E = WantFault} (Push endpoint url authorization) delivery made)
     (record {
-      spelled = reached_spelled gateway url endpoint (or_some (reached gateway url) fault.Endpoint endpoint goes);
-      shown = given_ok (λ text. list_all is_field_byte text ≡ true) (field_at (codes "authorization_header")) (member_of (codes "authorization_header") d) authorization
+      taken = taken;
+      spelled = spelled;
+      shown = given_ok (λ text. is_field text ≡ true) (field_at (codes "authorization_header")) (member_of (codes "authorization_header") d) authorization
           (λ e s read. field_read (codes "authorization_header") e s read) shown;
     })
 

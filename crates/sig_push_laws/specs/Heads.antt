@@ -1,8 +1,8 @@
 -- The head of a push, of what a receiver wants (OpenID Shared Signals Framework 1.0, section 6.1; RFC 8935, section 2.1).
-use Rattle.std.specs.Prelude.{◌≡◌, ◌≤◌, ◌<◌, ◌^◌, ℕ, List, ◌++◌, Bool, true, false, ◌&&◌, Option, Some, Ok, IfSome, codes, length, nat_le}
+use Rattle.std.specs.Prelude.{◌≡◌, ◌≤◌, ◌<◌, ◌^◌, ℕ, List, ◌++◌, ◌+◌, Bool, true, false, ◌&&◌, Option, Some, Ok, IfSome, codes, length, nat_le}
 use Rattle.std.specs.List.{after_first, before_first, list_all}
 use Rattle.serde_json.specs.Data.{Data}
-use Rattle.sig_json.specs.declared.limits.TheConstants.{REQUEST_BODY_BYTES}
+use Rattle.sig_json.specs.declared.limits.TheConstants.{HEAD_BYTES, REQUEST_BODY_BYTES}
 use Rattle.sig_jws.specs.declared.key.Key.{Key}
 use Rattle.sig_http.specs.Message.{DecidesRequest, Whole, is_question_mark}
 use Rattle.sig_http.specs.Spelling.{query_part, request_spelling}
@@ -38,29 +38,23 @@ pub record IsSafe (endpoint : Endpoint) (authorization : Option (List ℕ)) : Ty
   pub most : endpoint.place.port < 2 ^ 16
   pub path : list_all is_visible endpoint.path ≡ true
   pub rooted : (rest : List ℕ) × (endpoint.path ≡ codes "/" ++ rest)
+  pub plain : has_fragment endpoint.path ≡ false
   pub shown : IfSome authorization (λ text. list_all is_inline text ≡ true)
 
 abbrev pub WantedPushesAreSafe : Type 0
 WantedPushesAreSafe = (gateway : Bool) (body : Data) (endpoint : Endpoint) (url : List ℕ) (authorization : Option (List ℕ))
     → WantsPush gateway body endpoint url authorization → IsSafe endpoint authorization
 
--- ---- what is read back
+-- ---- sizes
 
 -- a URL and an authorization that leave room in a head
 pub record IsShort (url : List ℕ) (authorization : Option (List ℕ)) : Type 0 where
   pub url_bytes : length url ≤ 2048
   pub shown_bytes : IfSome authorization (λ text. length text ≤ 8192)
 
--- a path that may be the target of a request (RFC 9112, section 3.2): it has no fragment, and a query that isn't empty after
--- its first `?`, where it has one
-pub record IsTarget (path : List ℕ) : Type 0 where
-  pub plain : has_fragment path ≡ false
-  pub whole : before_first is_question_mark path ++ query_part (after_first is_question_mark path) ≡ path
-
--- a request with an endpoint's path and query: what stands before its first `?`, and after it
-abbrev pub at_endpoint : Endpoint → Request → Request
-at_endpoint endpoint request =
-    record request { path = before_first is_question_mark endpoint.path; query = after_first is_question_mark endpoint.path }
+abbrev pub WantedPushesAreShort : Type 0
+WantedPushesAreShort = (gateway : Bool) (body : Data) (endpoint : Endpoint) (url : List ℕ) (authorization : Option (List ℕ))
+    → WantsPush gateway body endpoint url authorization → IsShort url authorization
 
 -- a token is pushed there, and its text is no longer than a body may be
 pub record IsPushTo (endpoint : Endpoint) (authorization : Option (List ℕ)) (token : Token) (key : Key) : Type 0 where
@@ -68,10 +62,27 @@ pub record IsPushTo (endpoint : Endpoint) (authorization : Option (List ℕ)) (t
   pub shows : token.authorization ≡ authorization
   pub fits : length (token_text token.claims key) ≤ REQUEST_BODY_BYTES
 
+-- the head of each push to it is no longer than a head may be: what is written has no more beside the token's text
+abbrev pub WantedHeadsFit : Type 0
+WantedHeadsFit = (gateway : Bool) (body : Data) (endpoint : Endpoint) (url : List ℕ) (authorization : Option (List ℕ)) (token : Token) (key : Key)
+    → WantsPush gateway body endpoint url authorization → IsPushTo endpoint authorization token key
+    → length (request_spelling endpoint.place (push_of token key) push_kind false) ≤ HEAD_BYTES + length (token_text token.claims key)
+
+-- ---- what is read back
+
+-- a path of which nothing is lost where it is cut at its first `?`: where it has one, something follows it
+abbrev pub IsWhole : List ℕ → Type 0
+IsWhole path = before_first is_question_mark path ++ query_part (after_first is_question_mark path) ≡ path
+
+-- a request with an endpoint's path and query: what stands before its first `?`, and after it
+abbrev pub at_endpoint : Endpoint → Request → Request
+at_endpoint endpoint request =
+    record request { path = before_first is_question_mark endpoint.path; query = after_first is_question_mark endpoint.path }
+
 -- the push that is written is read as that push and nothing else, whatever follows it
 abbrev pub WantedPushesAreReadBack : Type 0
 WantedPushesAreReadBack = (gateway : Bool) (body : Data) (endpoint : Endpoint) (url : List ℕ) (authorization : Option (List ℕ)) (token : Token) (key : Key)
-    (rest : List ℕ) → WantsPush gateway body endpoint url authorization → IsShort url authorization → IsTarget endpoint.path
+    (rest : List ℕ) → WantsPush gateway body endpoint url authorization → IsWhole endpoint.path
     → IsPushTo endpoint authorization token key
     → DecidesRequest (request_spelling endpoint.place (push_of token key) push_kind false ++ rest)
     (Whole (at_endpoint endpoint (push_read token key)) rest)

@@ -1,8 +1,8 @@
 -- What a body wants of a stream: the members that a receiver supplies of a configuration (OpenID Shared Signals Framework 1.0, section
 -- 8.1.1). They are read in order, and the first that is wrong is the fault.
-use Rattle.std.specs.Prelude.{ℕ, List, [], ◌∷◌, ◌||◌, ◌==◌, Bool, not, Option, Some, None, option_and_then, option_map, Result, Ok, Err, ok_or, bytes_eq, codes, if◌then◌else◌}
+use Rattle.std.specs.Prelude.{ℕ, List, [], ◌∷◌, ◌&&◌, ◌||◌, ◌==◌, Bool, not, length, nat_le, Option, Some, None, option_and_then, option_map, Result, Ok, Err, ok_or, bytes_eq, codes, if◌then◌else◌}
 use Rattle.std.specs.Char.{is_ascii_graphic}
-use Rattle.std.specs.List.{list_all}
+use Rattle.std.specs.List.{list_all, list_any}
 use Rattle.serde_json.specs.Data.{Data, Items, no_items, item}
 use Rattle.serde_json.specs.Find.{as_array, as_str}
 use Rattle.sig_json.specs.Json.{member_of, text_member}
@@ -13,6 +13,7 @@ use Rattle.sig_terms.specs.declared.want.Delivery.TheVariants.{Poll, Push}
 use Rattle.sig_terms.specs.declared.want.Want.{Want}
 use Rattle.sig_stream.specs.declared.want_fault.WantFault.{WantFault}
 use Rattle.sig_stream.specs.declared.want_fault.WantFault.TheVariants as fault
+use Rattle.sig_stream.specs.declared.limits.TheConstants.{AUTHORIZATION_BYTES, ENDPOINT_URL_BYTES}
 use Rattle.sig_stream.specs.Endpoints.{endpoint_of}
 use Rattle.sig_stream.specs.Steps.{◌>>=◌, where_given}
 
@@ -40,9 +41,13 @@ texts_at name d = ok_or (option_and_then texts_of (as_array d)) (fault.Member na
 abbrev pub is_field_byte : ℕ → Bool
 is_field_byte b = is_ascii_graphic b || b == 32
 
+-- no more of them than there may be
+abbrev pub is_field : List ℕ → Bool
+is_field text = nat_le (length text) AUTHORIZATION_BYTES && list_all is_field_byte text
+
 -- the text of a field, which may be empty
 abbrev pub field_of : List ℕ → Option (List ℕ)
-field_of text = if list_all is_field_byte text then Some text else None
+field_of text = if is_field text then Some text else None
 
 abbrev pub field_at : List ℕ → Data → Result (List ℕ) WantFault
 field_at name d = ok_or (option_and_then field_of (as_str d)) (fault.Member name)
@@ -64,8 +69,20 @@ is_text text d = and_test (bytes_eq text) (as_str d)
 abbrev pub if_reached : Bool → Endpoint → Option Endpoint
 if_reached gateway e = if not e.secure || gateway then Some e else None
 
+-- the byte `#`, at which a fragment begins (RFC 3986, section 3.5)
+abbrev pub is_hash : ℕ → Bool
+is_hash b = b == 35
+
+-- a URL of no more bytes than there may be, without a fragment, which the target of a request can't have (RFC 9110, section 7.1)
+abbrev pub is_endpoint_url : List ℕ → Bool
+is_endpoint_url url = nat_le (length url) ENDPOINT_URL_BYTES && not (list_any is_hash url)
+
+-- the endpoint that such a URL spells
+abbrev pub endpoint_in : List ℕ → Option Endpoint
+endpoint_in url = if is_endpoint_url url then endpoint_of url else None
+
 abbrev pub reached : Bool → List ℕ → Option Endpoint
-reached gateway url = option_and_then (if_reached gateway) (endpoint_of url)
+reached gateway url = option_and_then (if_reached gateway) (endpoint_in url)
 
 -- by push: where to, and what each request says for its authorization
 abbrev pub push_of : Bool → Data → Result Delivery WantFault

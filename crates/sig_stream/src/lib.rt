@@ -14,6 +14,7 @@
 mod configuration;
 mod endpoint;
 pub mod laws;
+pub mod limits;
 mod publication;
 mod publish_fault;
 mod threads;

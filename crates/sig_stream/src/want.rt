@@ -1,7 +1,7 @@
 //! What a receiver wants of a stream (OpenID Shared Signals Framework 1.0, section 8.1.1).
 
 ghost use Rattle.std.specs.Prelude.{◌≡◌, IfOk, codes, option_and_then};
-ghost use Rattle.std.specs.List.{list_all};
+ghost use Rattle.std.specs.List.{list_all, list_any};
 ghost use Rattle.serde_json.specs.Find.{as_array};
 ghost use Rattle.serde_json.specs.View.{items_view, view};
 ghost use Rattle.sig_json.specs.Answers.{Answers};
@@ -9,6 +9,7 @@ ghost use Rattle.sig_json.specs.Json.{member_of};
 ghost use Rattle.sig_stream.specs.Steps.{where_given};
 ghost use Rattle.sig_stream.specs.Wants as spec;
 
+use crate::limits::{AUTHORIZATION_BYTES, ENDPOINT_URL_BYTES};
 use crate::{WantFault, endpoint_of};
 use sig_json::{Items, Memory, Text, Value, text_of};
 use sig_terms::{Delivery, Endpoint, Want};
@@ -18,10 +19,11 @@ use std::alloc::Global;
 ///
 /// `Member` names the first member of another kind, in the order `body`, `delivery`, `authorization_header`,
 /// `description`, `events_requested`: the body and `delivery` are objects, an `authorization_header` of delivery by push
-/// is a text of visible ASCII and spaces, `description` is a text, and `events_requested` a list of texts, of which the
-/// empty one asks for nothing. Before the `authorization_header` come `Method`, exactly where the delivery has a `method`
-/// that is neither URN, and `Endpoint`, exactly where delivery by push has no `endpoint_url` that spells an endpoint, or
-/// an `https` one without a gateway. A delivery without `method` is by poll, and one by poll has no more that is read.
+/// is a text of at most 8,192 bytes, visible ASCII and spaces, `description` is a text, and `events_requested` a list of
+/// texts, of which the empty one asks for nothing. Before the `authorization_header` come `Method`, exactly where the
+/// delivery has a `method` that is neither URN, and `Endpoint`, exactly where delivery by push has no `endpoint_url` of at
+/// most 2,048 bytes and without `#` that spells an endpoint, or an `https` one without a gateway. A delivery without
+/// `method` is by poll, and one by poll has no more that is read.
 #[tactic(auto, unfolding(crate::specs::Wants::want_of))]
 pub fn want_of(alloc: Global, body: &Value, gateway: bool) -> Result<Want, WantFault>
     ensures { Answers WantFault.Memory result (spec.want_of gateway (view body.now)) }
@@ -93,10 +95,32 @@ fn push_of(alloc: Global, delivery: &Value, gateway: bool) -> Result<Delivery, W
 fn reached(alloc: Global, url: &str, gateway: bool) -> Result<Option<Endpoint>, Memory>
     ensures { IfOk result (λ e. e ≡ spec.reached gateway url.now) }
 {
-    match endpoint_of(alloc, url)? {
+    match endpoint_in(alloc, url)? {
         Some(endpoint) if !endpoint.secure || gateway => Ok(Some(endpoint)),
         _ => Ok(None),
     }
+}
+
+// The endpoint that a URL spells, where a request may have it for its target.
+fn endpoint_in(alloc: Global, url: &str) -> Result<Option<Endpoint>, Memory>
+    ensures { IfOk result (λ e. e ≡ spec.endpoint_in url.now) }
+{
+    if is_endpoint_url(url.as_bytes()) {
+        return endpoint_of(alloc, url);
+    }
+    Ok(None)
+}
+
+fn is_endpoint_url(url: &[u8]) -> bool
+    ensures { result ≡ spec.is_endpoint_url url.now }
+{
+    url.len() <= ENDPOINT_URL_BYTES && !has_hash(url)
+}
+
+fn has_hash(url: &[u8]) -> bool
+    ensures { result ≡ list_any spec.is_hash url.now }
+{
+    url.contains(&b'#')
 }
 
 fn authorization_in(alloc: Global, delivery: &Value) -> Result<Option<Text>, WantFault>
@@ -120,6 +144,12 @@ fn field_at(alloc: Global, value: &Value, name: &str) -> Result<Text, WantFault>
 }
 
 fn is_field(text: &[u8]) -> bool
+    ensures { result ≡ spec.is_field text.now }
+{
+    text.len() <= AUTHORIZATION_BYTES && are_field_bytes(text)
+}
+
+fn are_field_bytes(text: &[u8]) -> bool
     ensures { result ≡ list_all spec.is_field_byte text.now }
 {
     text.iter()
