@@ -119,6 +119,18 @@ def sent(stream, place, shown=None, host="rx.example", port=8080, path="/events"
     return token(stream, place, authorization=shown, endpoint=endpoint, **parts)
 
 
+def stand(stream, owed=0, made=0, status="enabled", oldest=None):
+    return {"made": made, "oldest": oldest, "owed": owed, "status": status, "stream": stream}
+
+
+def listed(behind, *streams):
+    return "standings " + text({"next": behind, "streams": list(streams)})
+
+
+def figures(publications, *streams):
+    return "figures " + text({"publications": publications, "streams": list(streams)})
+
+
 def handed(*tokens):
     return "handed " + text(list(tokens))
 
@@ -523,6 +535,52 @@ SUBJECTS = [
     ("", publish(22), published(("acme-1", 7), ("acme-2", 5), ("acme-3", 2))),
 ]
 
+# What the operator reads of all streams, and that it deletes any.
+ALL = [stand(f"acme{client}-{place}") for client in range(1, 8) for place in range(1, 16)]
+OVERSEEN = [
+    *anew("Where no stream stands, none is listed, from whichever place"),
+    ("", call("streams", **{"from": 0}), listed(0)),
+    ("", call("streams", **{"from": 7}), listed(0)),
+    ("", call("figures"), figures(0)),
+    ("", operate("operator_delete", "acme-1"), "not-found"),
+    ("The streams of all clients stand in the order of client names and of numbers", create("zeta"), made("zeta-1")),
+    *[("", create(), made(f"acme-{place}")) for place in range(1, 11)],
+    ("", call("delete", "acme-3"), "gone"),
+    *[("", call("delete", f"acme-{place}"), "gone") for place in range(4, 10)],
+    ("", call("streams", **{"from": 0}), listed(4, stand("acme-1"), stand("acme-2"), stand("acme-10"), stand("zeta-1"))),
+    ("with what each owes, since when, and how many were made for it", publish(1, at=1700000000), published(("acme-1", 1), ("acme-2", 1), ("acme-10", 1), ("zeta-1", 1))),
+    ("", call("set_status", "acme-2", status="disabled"), state("acme-2", "disabled")),
+    ("", publish(2, at=1700000005), published(("acme-1", 2), ("acme-10", 2), ("zeta-1", 2))),
+    ("", poll("acme-1", [("acme-1", 1)]), sets(token("acme-1", 2, at=1700000005))),
+    ("", operate("operator_status", "zeta-1", status="paused", at=1700000009), state("zeta-1", "paused", None, 3)),
+    ("", call("streams", **{"from": 0}), listed(4, stand("acme-1", 1, 2, oldest=1700000005), stand("acme-2", 0, 1, "disabled"), stand("acme-10", 2, 2, oldest=1700000000), stand("zeta-1", 3, 3, "paused", 1700000000))),
+    ("from a place on, and none from the last one", call("streams", **{"from": 2}), listed(4, stand("acme-10", 2, 2, oldest=1700000000), stand("zeta-1", 3, 3, "paused", 1700000000))),
+    *[("", call("streams", **{"from": place}), listed(4)) for place in [4, 5, 2**62]],
+    ("The figures are of all streams, and of the publications that stand", call("figures"), figures(2, stand("acme-1", 1, 2, oldest=1700000005), stand("acme-2", 0, 1, "disabled"), stand("acme-10", 2, 2, oldest=1700000000), stand("zeta-1", 3, 3, "paused", 1700000000))),
+    ("A publication that comes again, or that isn't taken, doesn't count", publish(1), published(("acme-1", 1), ("acme-2", 1), ("acme-10", 1), ("zeta-1", 1))),
+    ("", publish(1, uri=SESSIONS), "conflict"),
+    ("A client that is configured no longer keeps its streams, and they are listed", rules(clients=[{"aud": [RP], "name": "acme"}]), "ok"),
+    ("", call("streams", **{"from": 3}), listed(4, stand("zeta-1", 3, 3, "paused", 1700000000))),
+    ("The operator deletes them", operate("operator_delete", "zeta-1"), "gone"),
+    ("", operate("operator_delete", "zeta-1"), "not-found"),
+    ("", "owed zeta-1", "none"),
+    ("and those of a client that is", operate("operator_delete", "acme-10"), "gone"),
+    ("", call("read", "acme-10"), "not-found"),
+    ("", call("figures"), figures(2, stand("acme-1", 1, 2, oldest=1700000005), stand("acme-2", 0, 1, "disabled"))),
+    ("A client may make another one then, with a number of its own", create(), made("acme-11")),
+    # a page has at most 100
+    *anew("A page has at most 100 streams", clients=[{"aud": [RP], "name": f"acme{place}"} for place in range(1, 8)]),
+    *[("", create(f"acme{client}"), made(f"acme{client}-{place}")) for client in range(1, 8) for place in range(1, 16)],
+    ("", call("streams", **{"from": 0}), listed(100, *ALL[:100])),
+    ("", call("streams", **{"from": 1}), listed(101, *ALL[1:101])),
+    ("", call("streams", **{"from": 5}), listed(105, *ALL[5:])),
+    ("", call("streams", **{"from": 100}), listed(105, *ALL[100:])),
+    ("", call("figures"), figures(0, *ALL)),
+    *anew("Back to the streams of the cases above"),
+    ("", create(), made("acme-1")),
+    *[("", publish(place), published(("acme-1", place))) for place in range(1, 8)],
+]
+
 FORMS = [
     *each("What spells no call changes nothing. The object names a call, and has its parts", str, [
         "call ", "call {", "call []", "call null", 'call "metadata"', "call {}", call("Metadata"), call(""), call("commit"), "call " + text({"call": 7}), call("metadata", at=-1),
@@ -534,7 +592,7 @@ FORMS = [
         call("poll", "acme-1"), call("poll", "acme-1", ask={}), call("poll", "acme-1", ask={"acks": [], "errors": []}), call("poll", "acme-1", ask={"acks": [7], "errors": [], "max": None}),
         call("poll", "acme-1", ask={"acks": [], "errors": {}, "max": None}), call("poll", "acme-1", ask={"acks": [], "errors": [["a"]], "max": None}), call("poll", "acme-1", ask={"acks": [], "errors": [["a", 7]], "max": None}),
         call("poll", "acme-1", ask={"acks": [], "errors": [["a", "b", "c"]], "max": None}), call("poll", "acme-1", ask={"acks": [], "errors": [], "max": -1}), call("poll", "acme-1", ask={"acks": [], "errors": [], "max": 2**62 + 1}),
-        call("publish"), call("publish", publication={}), publish(9, subject={}), publish(9, uri=VERIFICATION), operate("operator_status", "acme-1"), operate("operator_status", 7, status="paused"), "call " + text({"call": "deliver"}),
+        call("publish"), call("publish", publication={}), publish(9, subject={}), publish(9, uri=VERIFICATION), operate("operator_status", "acme-1"), operate("operator_status", 7, status="paused"), "call " + text({"call": "deliver"}), call("operator_delete"), call("streams"), call("streams", **{"from": -1}), call("streams", **{"from": "0"}),
         call("hand"), call("hand", streams="acme-1"), call("hand", streams=[7]), settle("acme-1", -1), settle("acme-1", None), settle("acme-1", 1, "Accepted"), settle("acme-1", 1, "reported"), settle("acme-1", 1, "reported", code=7), settle("acme-1", 1, None),
     ], "bad-case"),
     *each("Nor do rules that are none", str, ["rules ", "rules {}", "rules []", rules(defaults="all"), rules(defaults=None), rules(interval=86401), rules(interval=-1), rules(interval="0"), rules(issuer=7), rules(clients={}), rules(clients=[7]), rules(clients=[{"name": "a"}]), rules(clients=[{"aud": [], "name": 7}]), rules(clients=[{"aud": "b", "name": "a"}]), rules(clients=[{"aud": [7], "name": "a"}])], "bad-case"),
@@ -550,6 +608,6 @@ FORMS = [
 def lines():
     """The lines of the cases, each before its answer."""
     out = []
-    for shows, line, answer in NONE_STANDS + STREAMS + STATUSES + POLLS + PUSHES + VERIFICATIONS + SIZES + AUTHORS + SUBJECTS + FORMS:
+    for shows, line, answer in NONE_STANDS + STREAMS + STATUSES + POLLS + PUSHES + VERIFICATIONS + SIZES + AUTHORS + SUBJECTS + OVERSEEN + FORMS:
         out += [f"# {shows}."] * bool(shows) + [line, "> " + answer]
     return [line.encode() for line in out]

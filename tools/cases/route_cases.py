@@ -29,6 +29,10 @@ def client(method, path, body=None, query=None, **more):
     return case(method, path, "acme-bearer", body, query, **more)
 
 
+def overseer(method, path, query=None):
+    return case(method, path, "operator-bearer", None, query)
+
+
 def operator(path, body=None):
     return case("POST", path, "operator-bearer", body)
 
@@ -117,6 +121,19 @@ ROWS = [
     ("its members in order", operator("/operator/status", {"reason": 1, "status": 1}), 'bad "reason"'),
     ("the operator asks for pushes", operator("/operator/deliver", {"stream_id": "acme-1"}), 'call {"call":"deliver","stream":"acme-1"}'),
     ("no stream's name", operator("/operator/deliver", {}), 'bad "stream_id"'),
+    ("the operator deletes a stream", overseer("DELETE", "/operator/stream", "stream_id=acme-1"), 'call {"call":"operator_delete","stream":"acme-1"}'),
+    ("its name as it is decoded", overseer("DELETE", "/operator/stream", "from=x&stream_id=gone%2D1&stream_id=b"), 'call {"call":"operator_delete","stream":"gone-1"}'),
+    ("an empty one", overseer("DELETE", "/operator/stream", "stream_id="), 'call {"call":"operator_delete","stream":""}'),
+    ("no stream's name", overseer("DELETE", "/operator/stream", "stream=acme-1"), 'bad "stream_id"'),
+    ("the operator reads how streams stand, from the first", overseer("GET", "/operator/streams"), 'call {"call":"streams","from":0}'),
+    ("other members of a query are passed over", overseer("GET", "/operator/streams", "page=2&stream_id=acme-1"), 'call {"call":"streams","from":0}'),
+    ("from a place on", overseer("GET", "/operator/streams", "from=100"), 'call {"call":"streams","from":100}'),
+    ("the first one counts", overseer("GET", "/operator/streams", "from=0&from=x"), 'call {"call":"streams","from":0}'),
+    ("up to the last number", overseer("GET", "/operator/streams", "from=4611686018427387904"), 'call {"call":"streams","from":4611686018427387904}'),
+    *[("a place that is none", overseer("GET", "/operator/streams", "from=" + place), 'bad "from"') for place in ["", "01", "00", "-1", "%2B1", "1.0", "x", "1+", "4611686018427387905", "99999999999999999999", "%D9%A1"]],
+    ("the operator reads the figures", overseer("GET", "/operator/metrics", "from=x"), 'call {"call":"figures"}'),
+    *[(f"a client's bearer opens none of them: {path}", case(method, path, "acme-bearer", None, "stream_id=acme-1"), "auth") for method, path in [("DELETE", "/operator/stream"), ("GET", "/operator/streams"), ("GET", "/operator/metrics")]],
+    ("a stream is deleted, and not read, by the operator", overseer("GET", "/operator/stream", "stream_id=acme-1"), 'method "DELETE"'),
     ("RFC 9110, section 15.5.2: no bearer", case("GET", "/ssf/stream"), "auth"),
     ("an empty bearer", case("GET", "/ssf/stream", ""), "auth"),
     ("a bearer in another case", case("GET", "/ssf/stream", "Acme-bearer"), "auth"),

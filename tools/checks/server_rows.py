@@ -123,6 +123,76 @@ def limits(server):
     need(asked(server, "POST", "/poll/acme-1", body, {"content-encoding": "gzip"})[0] == 415, "a coded body is read")
 
 
+# The lines of the metrics that don't tell of time.
+METRICS = '''# HELP signals_streams Streams that stand, by status.
+# TYPE signals_streams gauge
+signals_streams{status="enabled"} 2
+signals_streams{status="paused"} 0
+signals_streams{status="disabled"} 0
+# HELP signals_publications_total Publications that stand.
+# TYPE signals_publications_total counter
+signals_publications_total 2
+# HELP signals_owed_tokens Tokens that a stream owes.
+# TYPE signals_owed_tokens gauge
+signals_owed_tokens{stream="acme-1"} 0
+signals_owed_tokens{stream="zeta-1"} 2
+# HELP signals_oldest_owed_timestamp_seconds When the first token that a stream owes was made, in seconds since 1970.
+# TYPE signals_oldest_owed_timestamp_seconds gauge
+# HELP signals_made_tokens_total Tokens that were made for a stream.
+# TYPE signals_made_tokens_total counter
+signals_made_tokens_total{stream="acme-1"} 4
+signals_made_tokens_total{stream="zeta-1"} 2
+'''
+
+
+def page_of(server, query=""):
+    """A page of how streams stand, without when the first owed token was made, which was just now."""
+    status, page = server.ask("GET", "/operator/streams" + query, bearer="operator")
+    need(status == 200, f"a page of streams is answered {status}")
+    for stream in page["streams"]:
+        need(("oldest" in stream) == (stream["owed"] > 0), f"since when is told wrongly: {stream}")
+        need(abs(stream.pop("oldest", time.time()) - time.time()) < 600, f"a token is owed since another time: {stream}")
+    return page
+
+
+def overseen(server, other):
+    """What the operator reads of all streams, and that it deletes one whose client was taken out of the settings."""
+    ours = {"made": 4, "owed": 0, "status": "enabled", "stream_id": "acme-1"}
+    theirs = {"made": 2, "owed": 2, "status": "enabled", "stream_id": "zeta-1"}
+    pages = [page_of(server, query) for query in ("", "?from=1", "?from=2&x=y")]
+    need(pages == [{"next": 2, "streams": found} for found in ([ours, theirs], [theirs], [])], f"streams stand like this: {pages}")
+    status, said = server.ask("GET", "/operator/streams?from=01", bearer="operator")
+    need((status, said["description"]) == (400, "from"), f"a place that is none is answered {status} {said}")
+    status, fields, text = server.ask_as_text("GET", "/operator/metrics", bearer="operator")
+    need((status, fields["content-type"]) == (200, "text/plain; version=0.0.4"), f"the metrics are answered {status} {fields}")
+    oldest = "signals_oldest_owed_timestamp_seconds{"
+    lines = text.decode().splitlines(keepends=True)
+    need("".join(line for line in lines if not line.startswith(oldest)) == METRICS, f"the metrics are {text.decode()}")
+    since = [line.split(" ") for line in lines if line.startswith(oldest)]
+    need([name for name, _ in since] == [oldest + 'stream="zeta-1"}'], f"a token is owed by {since}")
+    need(abs(int(since[0][1]) - time.time()) < 600, f"a token is owed since {since}")
+    paths = ("GET", "/operator/streams"), ("GET", "/operator/metrics"), ("DELETE", "/operator/stream?stream_id=zeta-1")
+    said = [server.ask(method, path, bearer=bearer)[0] for method, path in paths for bearer in ("client", other, None)]
+    need(said == [401] * 9, f"clients that ask as the operator are answered {said}")
+    left_out(server, other, ours, theirs)
+
+
+def left_out(server, other, ours, theirs):
+    """A stream whose client is in the settings no more: it is listed, and the operator deletes it."""
+    server.kill()
+    server.said["clients"].pop()
+    server.write(server.settings, server.said)
+    server.start()
+    need(server.ask("GET", "/ssf/stream", bearer=other)[0] == 401, "a client that was taken out is served")
+    page = page_of(server)
+    need(page == {"next": 2, "streams": [ours, theirs]}, f"without its client a stream stands like this: {page}")
+    asks = [server.ask("DELETE", "/operator/stream?stream_id=" + name, bearer="operator")[0] for name in ("zeta-1", "zeta-1", "")]
+    need(asks == [204, 404, 404], f"deletions of the operator are answered {asks}")
+    need(server.ask("DELETE", "/operator/stream", bearer="operator")[0] == 400, "a deletion of nothing isn't refused")
+    page = page_of(server)
+    need(page == {"next": 1, "streams": [ours]}, f"after it streams stand like this: {page}")
+
+
 def broken_clients(server):
     """Clients that end in the middle, reset their link, or send what is no request: the next one is served."""
     cut = b"POST /poll/acme-1 HTTP/1.1\r\ncontent-length: 9\r\n\r\n{"
@@ -178,6 +248,7 @@ def rows(server, room, is_long):
     streams(server, "change-me-zeta")
     settling(server, "change-me-zeta")
     limits(server)
+    overseen(server, "change-me-zeta")
     broken_clients(server)
     if is_long:
         slow_client(server)

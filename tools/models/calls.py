@@ -13,7 +13,7 @@ STORE = "6ba7b810-9dad-11d1-80b4-00c04fd430c8"
 STORE_WORD = word(bytes.fromhex(STORE.replace("-", "")))
 VERIFICATION, UPDATED = (PREFIX + "ssf/event-type/" + name for name in ["verification", "stream-updated"])
 BY_POLL = {"method": "poll"}
-LAST_NUMBER, PAYLOAD_BYTES, PAGE, MOST_STREAMS = 2**62, 6000, 32, 16
+LAST_NUMBER, PAYLOAD_BYTES, PAGE, MOST_STREAMS, STREAMS_PAGE = 2**62, 6000, 32, 16, 100
 KEEPING = ["authentication_failed", "access_denied"]
 STATUSES = ["enabled", "paused", "disabled"]
 
@@ -192,6 +192,26 @@ class Core:
         self.keep([token])
         return state(held, token["number"])
 
+    def operator_delete(self, rules, case, now):
+        held = self.named(case)
+        if not held:
+            return "not-found"
+        self.drop(held)
+        del self.streams[held["stream"]]
+        return "gone"
+
+    def standings(self):
+        for held in self.in_order():
+            owed = [token["claims"]["iat"] for token in self.owed(held)]
+            yield {"made": held["tokens"], "oldest": owed[0] if owed else None, "owed": len(owed), "status": held["status"], "stream": held["stream"]}
+
+    def listing(self, rules, case, now):
+        place, standings = number(case, "from"), list(self.standings())
+        return "standings " + dump({"next": min(place + STREAMS_PAGE, len(standings)), "streams": standings[place : place + STREAMS_PAGE]})
+
+    def figures(self, rules, case, now):
+        return "figures " + dump({"publications": len(self.published), "streams": list(self.standings())})
+
     def add(self, rules, case, now):
         return self.change_list(case, "NONE", "added")
 
@@ -272,8 +292,9 @@ class Core:
 CALLS = {
     name: getattr(Core, name)
     for name in """metadata create read_all read patch put delete get_status set_status add remove verify poll publish operator_status
-    deliver hand settle""".split()
+    operator_delete figures deliver hand settle""".split()
 }
+CALLS["streams"] = Core.listing
 
 
 def is_due(held, subject, uri):

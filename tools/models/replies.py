@@ -38,6 +38,43 @@ def issued(token):
     return {"jti": f"{STORE}.{token[0]}.{token[1]}", "stream_id": token[0]}
 
 
+def number(case, name):
+    value = member(case, name, int)
+    if isinstance(value, bool) or not 0 <= value <= 2**62:
+        raise BadCase
+    return value
+
+
+def standing(case):
+    """How a stream stands, as a page has it: `oldest` where a token is owed."""
+    if not isinstance(case, dict) or member(case, "status", str) not in STATUSES:
+        raise BadCase
+    oldest = {"oldest": number(case, "oldest")} if "oldest" in case else {}
+    return {"made": number(case, "made"), "owed": number(case, "owed"), "status": case["status"], "stream_id": member(case, "stream", str), **oldest}
+
+
+def metric(name, kind, help, values):
+    """A metric of Prometheus' text format 0.0.4: its help, its kind, and a line for each value."""
+    return [f"# HELP {name} {help}", f"# TYPE {name} {kind}"] + [f"{name}{label} {value}" for label, value in values]
+
+
+def metrics(publications, streams):
+    """The metrics, as one text."""
+    by_stream = [('{stream="%s"}' % one["stream_id"], one) for one in streams]
+    lines = [
+        *metric("signals_streams", "gauge", "Streams that stand, by status.", [
+            ('{status="%s"}' % status, sum(one["status"] == status for one in streams)) for status in STATUSES
+        ]),
+        *metric("signals_publications_total", "counter", "Publications that stand.", [("", publications)]),
+        *metric("signals_owed_tokens", "gauge", "Tokens that a stream owes.", [(label, one["owed"]) for label, one in by_stream]),
+        *metric("signals_oldest_owed_timestamp_seconds", "gauge", "When the first token that a stream owes was made, in seconds since 1970.", [
+            (label, one["oldest"]) for label, one in by_stream if "oldest" in one
+        ]),
+        *metric("signals_made_tokens_total", "counter", "Tokens that were made for a stream.", [(label, one["made"]) for label, one in by_stream]),
+    ]
+    return "".join(line + "\n" for line in lines)
+
+
 def reply(case):
     name = member(case, "answer", str)
     if name in EMPTY:
@@ -52,6 +89,11 @@ def reply(case):
         return "200 " + dump(state(case))
     if name == "published":
         return "200 " + dump({"tokens": [issued(token) for token in member(case, "tokens", list)]})
+    if name == "standings":
+        return "200 " + dump({"next": number(case, "next"), "streams": [standing(item) for item in member(case, "standings", list)]})
+    if name == "figures":
+        # the lines of the body, as a text in JSON
+        return "200 " + dump(metrics(number(case, "publications"), [standing(item) for item in member(case, "standings", list)]))
     if name == "long":
         return "400 " + dump({"description": "long", "err": "invalid_request"})
     raise BadCase

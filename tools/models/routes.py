@@ -1,5 +1,6 @@
 """The routes of a transmitter (OpenID Shared Signals Framework 1.0, sections 7.1 and 8.1; docs/FORMATS.md)."""
 import json
+import re
 import urllib.parse
 
 from models import subjects
@@ -27,6 +28,9 @@ ROUTES = [
     ("POST", "/operator/publish", "operator", "publish"),
     ("POST", "/operator/status", "operator", "operator_status"),
     ("POST", "/operator/deliver", "operator", "deliver"),
+    ("DELETE", "/operator/stream", "operator", "operator_delete"),
+    ("GET", "/operator/streams", "operator", "streams"),
+    ("GET", "/operator/metrics", "operator", "figures"),
 ]
 
 
@@ -97,8 +101,23 @@ def parts_of(name, body, gateway):
     return {"stream": text_in(body, "stream_id")}
 
 
+def named_in(query, name):
+    return [value for key, value in urllib.parse.parse_qsl(query, keep_blank_values=True, errors="replace") if key == name]
+
+
+def place_in(query):
+    """A number up to 2^62 in decimal without leading zeros; 0 where none is given."""
+    place = [*named_in(query, "from"), "0"][0]
+    need(re.fullmatch("0|[1-9][0-9]*", place, re.ASCII) and int(place) <= 2**62, "from")
+    return {"from": int(place)}
+
+
 def by_query(name, query):
-    named = [value for key, value in urllib.parse.parse_qsl(query, keep_blank_values=True, errors="replace") if key == "stream_id"]
+    if name == "figures":
+        return name, {}
+    if name == "streams":
+        return name, place_in(query)
+    named = named_in(query, "stream_id")
     if name == "read" and not named:
         return "read_all", {}
     need(named, "stream_id")
@@ -121,7 +140,7 @@ def asked(name, case, client):
     if name == "poll":
         check_ask(case.get("body", "").encode())
         return "poll " + dump({**whose, "stream": case["path"][len("/poll/"):]})
-    if name in ("read", "delete", "get_status"):
+    if name in ("read", "delete", "get_status", "operator_delete", "streams", "figures"):
         name, parts = by_query(name, case.get("query", ""))
     else:
         parts = parts_of(name, object_in(case.get("body", "")), case.get("gateway", False))

@@ -17,6 +17,7 @@ mod counts;
 mod debt;
 mod kept_token;
 mod names;
+mod overseen;
 mod places;
 mod publication;
 mod sameness;

@@ -12,7 +12,7 @@ use Rattle.sig_terms.specs.Reply.{Reply}
 use Rattle.sig_terms.specs.declared.answer.Answer.{Answer}
 use Rattle.sig_terms.specs.declared.answer.Answer.TheVariants as answer
 use Rattle.sig_terms.specs.declared.call.Call.{Call}
-use Rattle.sig_terms.specs.declared.call.Call.TheVariants.{Metadata, Create, ReadAll, Read, Patch, Put, Delete, GetStatus, SetStatus, Add, Remove, Verify, Poll, Publish, OperatorStatus, Deliver, Hand, Settle}
+use Rattle.sig_terms.specs.declared.call.Call.TheVariants.{Metadata, Create, ReadAll, Read, Patch, Put, Delete, GetStatus, SetStatus, Add, Remove, Verify, Poll, Publish, OperatorStatus, OperatorDelete, Streams, Figures, Deliver, Hand, Settle}
 use Rattle.sig_terms.specs.declared.configuration.StreamConf.{StreamConf}
 use Rattle.sig_terms.specs.declared.fact.Fact.{Fact}
 use Rattle.sig_terms.specs.declared.fact.Fact.TheVariants as fact
@@ -50,6 +50,7 @@ use Rattle.sig_answer_laws.specs.Laws.{IsTrueAnswer, Says}
 use Rattle.sig_answer_laws.specs.Refused.{IsLate}
 use Rattle.sig_answer_laws.proofs.GivenLemmas.{handed_says, issued_owed, sets_say, settled_says}
 use Rattle.sig_answer_laws.proofs.RefusalLemmas.{Case, IsKnown, Tells, either_says, found_says, making_says}
+use Rattle.sig_answer_laws.proofs.StandingLemmas.{each_told, standings_say}
 use Rattle.sig_answer_laws.proofs.StreamLemmas.{after_whole, confs_each, own_conf}
 use Rattle.sig_answer_laws.proofs.SubjectLemmas.{added_has, removed_hasnt}
 use Rattle.sig_answer_laws.proofs.TokenLemmas.{told_owed}
@@ -251,7 +252,7 @@ says rules sum (Put client stream want) now called whole known =
 says rules sum (Delete client stream) now called whole known =
     found_says (case rules sum (Delete client stream) now) (λ (s : Stream). with_change answer.Gone (Some (fact.Deleted stream)))
     (client_stream client stream sum.parts.streams) (λ none. none)
-    (λ s is k low. (let left = deleting_leaves sum stream in record { client = client; stream = stream; asked = refl; gone = left.0; nothing = left.1 })) known
+    (λ s is k low. (let left = deleting_leaves sum stream in record { stream = stream; asked = inl (client, refl); gone = left.0; nothing = left.1 })) known
 says rules sum (GetStatus client stream) now called whole known =
     found_says (case rules sum (GetStatus client stream) now) (λ (s : Stream). only (state_of stream s)) (client_stream client stream sum.parts.streams) (λ none. none)
     (λ s is k low. record { stands = k.true_of low; told = tt }) known
@@ -304,6 +305,12 @@ says rules sum (Publish id n) now called whole known = published_says rules sum 
 says rules sum (OperatorStatus stream new reason) now called whole known =
     found_says (case rules sum (OperatorStatus stream new reason) now) (operated sum.parts stream new reason now) (stream_named stream sum.parts.streams) (λ none. none)
     (λ s is k. operated_says rules sum stream new reason now s whole is k) known
+says rules sum (OperatorDelete stream) now called whole known =
+    found_says (case rules sum (OperatorDelete stream) now) (λ (s : Stream). with_change answer.Gone (Some (fact.Deleted stream)))
+    (stream_named stream sum.parts.streams) (λ none. none)
+    (λ s is k low. (let left = deleting_leaves sum stream in record { stream = stream; asked = inr refl; gone = left.0; nothing = left.1 })) known
+says rules sum (Streams from) now called whole known = λ low. standings_say sum from
+says rules sum Figures now called whole known = λ low. record { asked = refl; same = refl; published = refl; each = each_told sum sum.parts.streams }
 says rules sum (Deliver stream) now called whole known =
     found_says (case rules sum (Deliver stream) now) (λ (s : Stream). if is_push s.conf.delivery then only (answer.Delivering stream) else only answer.NotFound)
     (stream_named stream sum.parts.streams) (λ none. inl none)

@@ -1,6 +1,7 @@
 -- What the answers say that give what was asked for (OpenID Shared Signals Framework 1.0, section 8; RFC 8935, section 2; RFC
 -- 8936, section 2.4).
-use Rattle.std.specs.Prelude.{◌≡◌, ◌⊎◌, ◌↔◌, ◌<◌, ◌≤◌, ℕ, List, [], ◌++◌, Bool, true, false, Option, Some, None, All, Contains, IfSome, flat_map, length, map, min, unwrap_or}
+use Rattle.std.specs.Prelude.{◌≡◌, ◌⊎◌, ◌↔◌, ◌+◌, ◌<◌, ◌≤◌, ℕ, List, [], ◌∷◌, ◌++◌, Bool, true, false, Option, Some, None, All, Contains, IfSome, flat_map, length, map, min, option_map, unwrap_or, ⊤}
+use Rattle.std.specs.List.{slice_get}
 use Rattle.sig_json.specs.declared.limits.TheConstants.{STREAMS_PER_CLIENT, TOKENS_PER_PAGE}
 use Rattle.sig_subject.specs.declared.subject.Subject.{Subject}
 use Rattle.sig_event.specs.News.{is_same_news}
@@ -9,7 +10,7 @@ use Rattle.sig_event.specs.declared.news.News.{News}
 use Rattle.sig_event.specs.declared.status.Status.{Status}
 use Rattle.sig_terms.specs.Deliveries.{is_push}
 use Rattle.sig_terms.specs.declared.call.Call.{Call}
-use Rattle.sig_terms.specs.declared.call.Call.TheVariants.{Metadata, Create, ReadAll, Delete, Add, Remove, Verify, Poll, Publish, Deliver, Hand, Settle}
+use Rattle.sig_terms.specs.declared.call.Call.TheVariants.{Metadata, Create, ReadAll, Delete, Add, Remove, Verify, Poll, Publish, OperatorDelete, Streams, Figures, Deliver, Hand, Settle}
 use Rattle.sig_terms.specs.declared.call.Outcome.{Outcome}
 use Rattle.sig_terms.specs.declared.call.Outcome.TheVariants as outcome
 use Rattle.sig_terms.specs.declared.call.PollAsk.{PollAsk}
@@ -17,6 +18,7 @@ use Rattle.sig_terms.specs.declared.configuration.StreamConf.{StreamConf}
 use Rattle.sig_terms.specs.declared.fact.Fact.{Fact}
 use Rattle.sig_terms.specs.declared.rules.Client.{Client}
 use Rattle.sig_terms.specs.declared.rules.Rules.{Rules}
+use Rattle.sig_terms.specs.declared.standing.Standing.{Standing}
 use Rattle.sig_terms.specs.declared.token.Issued.{Issued}
 use Rattle.sig_terms.specs.declared.token.Token.{Token}
 use Rattle.sig_terms.specs.declared.want.Defaults.{Defaults}
@@ -29,6 +31,7 @@ use Rattle.sig_history.specs.Streams.{Made, Publication, Stream, made_in, public
 use Rattle.sig_calls.specs.Creating.{client_of}
 use Rattle.sig_calls.specs.Handing.{first_names, pushed_by}
 use Rattle.sig_calls.specs.Speaking.{HasConf, HasState}
+use Rattle.sig_calls.specs.declared.limits.TheConstants.{STREAMS_PER_PAGE}
 use Rattle.sig_fact_laws.specs.Due.{Has, Matches}
 use Rattle.sig_answer_laws.specs.Tokens.{IsOn, IsOwn, OwesToken, after}
 
@@ -66,11 +69,14 @@ pub record SaysConfs (sum : Sum) (call : Call) (change : Option Fact) (confs : L
   pub same : change ≡ None
   pub each : (conf : StreamConf) → Contains confs conf ↔ ((s : Stream) × IsOwn sum client conf.stream s × (s.conf ≡ conf))
 
+-- the call deletes the stream: a client its own, or the operator one of any client
+abbrev pub Deletes : Call → List ℕ → Type 0
+Deletes call stream = ((client : List ℕ) × (call ≡ Delete client stream)) ⊎ (call ≡ OperatorDelete stream)
+
 -- the stream stands no longer, and owes nothing
 pub record SaysGone (sum : Sum) (call : Call) (change : Option Fact) : Type 0 where
-  pub client : List ℕ
   pub stream : List ℕ
-  pub asked : call ≡ Delete client stream
+  pub asked : Deletes call stream
   pub gone : stands stream (after sum change).parts.streams ≡ false
   pub nothing : owed_by (after sum change) stream ≡ []
 
@@ -162,3 +168,42 @@ pub record SaysSettled (sum : Sum) (call : Call) (change : Option Fact) (count :
   pub asked : call ≡ Settle stream number said
   pub settled : ((count ≡ 1) × (has_number number (owed_by sum stream) ≡ true) × (has_number number (owed_by (after sum change) stream) ≡ false))
       ⊎ ((count ≡ 0) × (change ≡ None) × ((has_number number (owed_by sum stream) ≡ false) ⊎ (said ≡ outcome.Keep)))
+
+-- how a stream stands is told: its name, its status, how many tokens it owes and when the first of them was made, and how many
+-- were made for it
+pub record TellsOf (sum : Sum) (s : Stream) (told : Standing) : Type 0 where
+  pub name : told.stream ≡ s.conf.stream
+  pub status : told.status ≡ s.status
+  pub owed : told.owed ≡ length (owed_by sum s.conf.stream)
+  pub oldest : told.oldest ≡ option_map (λ (t : Made). t.claims.iat) (slice_get (owed_by sum s.conf.stream) 0)
+  pub made : told.made ≡ s.made
+
+-- of each of some streams it is told in its place, and of no other
+abbrev pub TellsOfEach : Sum → List Stream → List Standing → Type 0
+TellsOfEach sum [] [] = ⊤
+TellsOfEach sum [] (t ∷ ts) = ⊥
+TellsOfEach sum (s ∷ ss) [] = ⊥
+TellsOfEach sum (s ∷ ss) (t ∷ ts) = TellsOf sum s t × TellsOfEach sum ss ts
+
+-- the streams of all clients, in order of client name and number, stand before the page, in it or after it; the page begins at
+-- the place that was asked for, where there are so many, and ends at the one that is told; one that isn't full is the last
+pub record SaysStandings (sum : Sum) (call : Call) (change : Option Fact) (next : ℕ) (standings : List Standing) : Type 0 where
+  pub from : ℕ
+  pub before : List Stream
+  pub listed : List Stream
+  pub rest : List Stream
+  pub asked : call ≡ Streams from
+  pub same : change ≡ None
+  pub all : before ++ (listed ++ rest) ≡ sum.parts.streams
+  pub first : length before ≡ min from (length sum.parts.streams)
+  pub last : length before + length listed ≡ next
+  pub each : TellsOfEach sum listed standings
+  pub within : length listed ≤ STREAMS_PER_PAGE
+  pub full : 0 < length rest → length listed ≡ STREAMS_PER_PAGE
+
+-- all streams of all clients are told of, each once and in order, and so many publications stand
+pub record SaysFigures (sum : Sum) (call : Call) (change : Option Fact) (publications : ℕ) (standings : List Standing) : Type 0 where
+  pub asked : call ≡ Figures
+  pub same : change ≡ None
+  pub published : publications ≡ length sum.parts.published
+  pub each : TellsOfEach sum sum.parts.streams standings

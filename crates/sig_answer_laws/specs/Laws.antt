@@ -7,12 +7,13 @@ use Rattle.sig_terms.specs.declared.call.Call.{Call}
 use Rattle.sig_terms.specs.declared.configuration.StreamConf.{StreamConf}
 use Rattle.sig_terms.specs.declared.fact.Fact.{Fact}
 use Rattle.sig_terms.specs.declared.rules.Rules.{Rules}
+use Rattle.sig_terms.specs.declared.standing.Standing.{Standing}
 use Rattle.sig_terms.specs.declared.token.Issued.{Issued}
 use Rattle.sig_terms.specs.declared.token.Token.{Token}
 use Rattle.sig_history.specs.Owed.{Sum}
 use Rattle.sig_history.specs.Whole.{IsWhole}
 use Rattle.sig_calls.specs.Proper.{IsProperCall, IsProperRules}
-use Rattle.sig_answer_laws.specs.Given.{SaysAdded, SaysAsked, SaysConf, SaysConfs, SaysDelivering, SaysGone, SaysHanded, SaysMade, SaysMeta, SaysPublished, SaysRemoved, SaysSets, SaysSettled, SaysState}
+use Rattle.sig_answer_laws.specs.Given.{SaysAdded, SaysAsked, SaysConf, SaysConfs, SaysDelivering, SaysFigures, SaysGone, SaysHanded, SaysMade, SaysMeta, SaysPublished, SaysRemoved, SaysSets, SaysSettled, SaysStandings, SaysState}
 use Rattle.sig_answer_laws.specs.Refused.{SaysConflict, SaysDisabled, SaysEarly, SaysLong, SaysNotFound, SaysTooMany}
 use Rattle.sig_answer_laws.specs.Tokens.{Replies}
 
@@ -29,6 +30,8 @@ Says rules sum call now change answer.Removed = SaysRemoved sum call change
 Says rules sum call now change (answer.Asked stream number) = SaysAsked sum call change stream number
 Says rules sum call now change (answer.Sets tokens more) = SaysSets sum call change tokens more
 Says rules sum call now change (answer.Published store_id tokens) = SaysPublished sum call change store_id tokens
+Says rules sum call now change (answer.Standings next standings) = SaysStandings sum call change next standings
+Says rules sum call now change (answer.Figures publications standings) = SaysFigures sum call change publications standings
 Says rules sum call now change (answer.Delivering stream) = SaysDelivering sum call change stream
 Says rules sum call now change (answer.Handed tokens) = SaysHanded sum call change tokens
 Says rules sum call now change (answer.Settled count) = SaysSettled sum call change count
@@ -76,6 +79,12 @@ SetsIsTrue = (tokens : List Token) (more : Bool) → IsTrueAnswer (answer.Sets t
 
 abbrev pub PublishedIsTrue : Type 0
 PublishedIsTrue = (store_id : List ℕ) (tokens : List Issued) → IsTrueAnswer (answer.Published store_id tokens)
+
+abbrev pub StandingsAreTrue : Type 0
+StandingsAreTrue = (next : ℕ) (standings : List Standing) → IsTrueAnswer (answer.Standings next standings)
+
+abbrev pub FiguresAreTrue : Type 0
+FiguresAreTrue = (publications : ℕ) (standings : List Standing) → IsTrueAnswer (answer.Figures publications standings)
 
 abbrev pub DeliveringIsTrue : Type 0
 DeliveringIsTrue = (stream : List ℕ) → IsTrueAnswer (answer.Delivering stream)

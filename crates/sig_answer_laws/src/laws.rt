@@ -1,7 +1,7 @@
 //! Laws over the definitions: each function's contract is the law, and nothing calls it.
 
 ghost use Rattle.sig_answer_laws.specs.Exact.{ConflictComes, DisabledComes, EarlyComes, LongComes, NotFoundComes, TooManyComes};
-ghost use Rattle.sig_answer_laws.specs.Laws.{AddedIsTrue, AskedIsTrue, ConfIsTrue, ConflictIsTrue, ConfsIsTrue, DeliveringIsTrue, DisabledIsTrue, EarlyIsTrue, GoneIsTrue, HandedIsTrue, LongIsTrue, MadeIsTrue, MetaIsTrue, NotFoundIsTrue, PublishedIsTrue, RemovedIsTrue, SetsIsTrue, SettledIsTrue, StateIsTrue, TooManyIsTrue};
+ghost use Rattle.sig_answer_laws.specs.Laws.{AddedIsTrue, AskedIsTrue, ConfIsTrue, ConflictIsTrue, ConfsIsTrue, DeliveringIsTrue, DisabledIsTrue, EarlyIsTrue, FiguresAreTrue, GoneIsTrue, HandedIsTrue, LongIsTrue, MadeIsTrue, MetaIsTrue, NotFoundIsTrue, PublishedIsTrue, RemovedIsTrue, SetsIsTrue, SettledIsTrue, StandingsAreTrue, StateIsTrue, TooManyIsTrue};
 
 /// The answer that what the transmitter offers is told comes to the call that asks for it, and nothing changes (Shared Signals
 /// Framework 1.0, section 7.1).
@@ -66,6 +66,17 @@ pub fn sets_are_true()
 /// name each of them is owed and tells the event.
 pub fn published_is_true()
     ensures { PublishedIsTrue }
+{}
+
+/// A page that the operator reads tells of each stream of every client that stands at one of its places, in order, its status,
+/// how many tokens it owes and since when, and how many were made for it; the place that is answered is the one behind them.
+pub fn standings_are_true()
+    ensures { StandingsAreTrue }
+{}
+
+/// Figures that the operator reads tell so of each stream of every client, once and in order, and how many publications stand.
+pub fn figures_are_true()
+    ensures { FiguresAreTrue }
 {}
 
 /// A round of pushes is answered to begin for a stream that stands and whose tokens are sent (RFC 8935, section 2).

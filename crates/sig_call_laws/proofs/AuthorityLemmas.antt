@@ -7,7 +7,7 @@ use Rattle.std.proofs.lemmas.Bool.{and_parts, both_ways, false_from_ne_true}
 use Rattle.std.proofs.lemmas.List.Elements.{All-append, All-cons, All-nil}
 use Rattle.sig_event.specs.declared.news.News.{News}
 use Rattle.sig_terms.specs.declared.call.Call.{Call}
-use Rattle.sig_terms.specs.declared.call.Call.TheVariants.{Metadata, Create, ReadAll, Read, Patch, Put, Delete, GetStatus, SetStatus, Add, Remove, Verify, Poll, Publish, OperatorStatus, Deliver, Hand, Settle}
+use Rattle.sig_terms.specs.declared.call.Call.TheVariants.{Metadata, Create, ReadAll, Read, Patch, Put, Delete, GetStatus, SetStatus, Add, Remove, Verify, Poll, Publish, OperatorStatus, OperatorDelete, Streams, Figures, Deliver, Hand, Settle}
 use Rattle.sig_terms.specs.declared.fact.Fact.{Fact}
 use Rattle.sig_terms.specs.declared.fact.Fact.TheVariants.{Created, Configured, StatusSet, Listed, Unlisted, Deleted, Published, Settled, Asked}
 use Rattle.sig_terms.specs.declared.rules.Client.{Client}
@@ -166,6 +166,9 @@ own_changed rules sum client call now f proper whole called is = by call called 
     by (Poll c stream ask) same of = own_within sum c client stream f whole same of
     by (Publish id news) same of = cc same
     by (OperatorStatus stream status reason) same of = cc same
+    by (OperatorDelete stream) same of = cc same
+    by (Streams from) same of = cc same
+    by Figures same of = cc same
     by (Deliver stream) same of = cc same
     by (Hand streams) same of = cc same
     by (Settle stream number outcome) same of = cc same

@@ -13,6 +13,7 @@ pub mod SubjectsLemmas
 pub mod VerifyingLemmas
 pub mod PollingLemmas
 pub mod HandingLemmas
+pub mod OverseeingLemmas
 pub mod PublishingLemmas
 pub mod SettlingLemmas
 pub mod RegularLemmas

@@ -3,7 +3,7 @@ use Rattle.std.proofs.Common.{ℕ, refl}
 use Rattle.sig_terms.specs.declared.rules.Rules.{Rules}
 use Rattle.sig_terms.specs.declared.answer.Answer.TheVariants as answer
 use Rattle.sig_terms.specs.declared.call.Call.{Call}
-use Rattle.sig_terms.specs.declared.call.Call.TheVariants.{Metadata, Create, ReadAll, Read, Patch, Put, Delete, GetStatus, SetStatus, Add, Remove, Verify, Poll, Publish, OperatorStatus, Deliver, Hand, Settle}
+use Rattle.sig_terms.specs.declared.call.Call.TheVariants.{Metadata, Create, ReadAll, Read, Patch, Put, Delete, GetStatus, SetStatus, Add, Remove, Verify, Poll, Publish, OperatorStatus, OperatorDelete, Streams, Figures, Deliver, Hand, Settle}
 use Rattle.sig_history.specs.Owed.{Sum}
 use Rattle.sig_calls.specs.Proper.{IsProperRules}
 use Rattle.sig_calls.specs.Regular.{CallsAreRegular}
@@ -11,6 +11,7 @@ use Rattle.sig_calls.specs.Table.{told_of}
 use Rattle.sig_calls.proofs.ConfiguringLemmas.{deleting_lawful, patching_lawful, putting_lawful, reading_all_lawful, reading_lawful}
 use Rattle.sig_calls.proofs.CreatingLemmas.{creating_lawful}
 use Rattle.sig_calls.proofs.HandingLemmas.{delivering_lawful, handing_lawful}
+use Rattle.sig_calls.proofs.OverseeingLemmas.{dropping_lawful, figuring_lawful, listing_lawful}
 use Rattle.sig_calls.proofs.PollingLemmas.{polling_lawful}
 use Rattle.sig_calls.proofs.PublishingLemmas.{publishing_lawful}
 use Rattle.sig_calls.proofs.SettlingLemmas.{settling_lawful}
@@ -36,6 +37,9 @@ calls_lawful rules sum (Verify client stream state) now proper = verifying_lawfu
 calls_lawful rules sum (Poll client stream ask) now proper = polling_lawful rules sum client stream ask now
 calls_lawful rules sum (Publish id news) now proper = publishing_lawful rules sum id news now
 calls_lawful rules sum (OperatorStatus stream status reason) now proper = operating_lawful rules sum stream status reason now
+calls_lawful rules sum (OperatorDelete stream) now proper = dropping_lawful rules sum stream now
+calls_lawful rules sum (Streams from) now proper = listing_lawful rules sum from now
+calls_lawful rules sum Figures now proper = figuring_lawful rules sum now
 calls_lawful rules sum (Deliver stream) now proper = delivering_lawful rules sum stream now
 calls_lawful rules sum (Hand streams) now proper = handing_lawful rules sum streams now
 calls_lawful rules sum (Settle stream number outcome) now proper = settling_lawful rules sum stream number outcome now

@@ -10,7 +10,7 @@ use Rattle.sig_event.specs.declared.status.Status.{Status}
 use Rattle.sig_terms.specs.Deliveries.{is_push}
 use Rattle.sig_terms.specs.declared.answer.Answer.{Answer}
 use Rattle.sig_terms.specs.declared.answer.Answer.TheVariants as answer
-use Rattle.sig_terms.specs.declared.call.Call.TheVariants.{Metadata, Create, ReadAll, Read, Patch, Put, Delete, GetStatus, SetStatus, Add, Remove, Verify, Poll, Publish, OperatorStatus, Deliver, Hand, Settle}
+use Rattle.sig_terms.specs.declared.call.Call.TheVariants.{Metadata, Create, ReadAll, Read, Patch, Put, Delete, GetStatus, SetStatus, Add, Remove, Verify, Poll, Publish, OperatorStatus, OperatorDelete, Streams, Figures, Deliver, Hand, Settle}
 use Rattle.sig_terms.specs.declared.configuration.StreamConf.{StreamConf}
 use Rattle.sig_terms.specs.declared.fact.Fact.{Fact}
 use Rattle.sig_terms.specs.declared.fact.Fact.TheVariants as fact
@@ -217,6 +217,10 @@ answers_true rules sum (OperatorStatus stream status reason) now proper called w
     (λ s is. either_true sum (status_eq s.status status) _ _ (λ same low. state_true sum stream s is)
     (λ other. making_true sum (answer.State stream status reason (Some (s.made + 1))) (fact.StatusSet stream status reason true now)
     (set_true sum stream s status reason true now is)))
+answers_true rules sum (OperatorDelete stream) now proper called whole =
+    found_true sum _ (stream_named stream sum.parts.streams) (λ s is low. tt)
+answers_true rules sum (Streams from) now proper called whole = λ low. tt
+answers_true rules sum Figures now proper called whole = λ low. tt
 answers_true rules sum (Deliver stream) now proper called whole =
     found_true sum _ (stream_named stream sum.parts.streams) (λ s is. either_true sum (is_push s.conf.delivery) _ _ (λ push low. tt) (λ poll low. tt))
 answers_true rules sum (Hand streams) now proper called whole = λ low. tt

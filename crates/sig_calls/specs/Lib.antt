@@ -9,6 +9,7 @@ pub mod Verifying
 pub mod Settling
 pub mod Polling
 pub mod Handing
+pub mod Overseeing
 pub mod Publishing
 pub mod Table
 pub mod Proper

@@ -1,7 +1,10 @@
-//! The numbers that bound what requests and scripts want of a stream.
+//! The numbers that bound what requests and scripts want of a stream, and how many streams the operator reads at a time.
 
 /// Bytes of the texts of what is wanted together at most.
 pub const WANT_BYTES: usize = 655_360;
 
 /// Items of the requested list at most.
 pub const WANT_ITEMS: usize = 655_360;
+
+/// Streams in a page that the operator reads at most.
+pub const STREAMS_PER_PAGE: usize = 100;

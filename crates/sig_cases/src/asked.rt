@@ -56,7 +56,10 @@ pub fn call_value(alloc: Global, call: &Call) -> Result<Value, Memory> {
             status,
             reason,
         } => operator_status(alloc, stream, *status, reason),
-        Call::Deliver { stream } => delivered(alloc, stream),
+        Call::OperatorDelete { stream } => of_stream(alloc, "operator_delete", stream),
+        Call::Streams { from } => listed(alloc, *from),
+        Call::Figures => Ok(Value::Object(called(alloc, "figures")?)),
+        Call::Deliver { stream } => of_stream(alloc, "deliver", stream),
         Call::Poll { .. } | Call::Hand { .. } | Call::Settle { .. } => Ok(Value::Null),
     }
 }
@@ -166,9 +169,16 @@ fn put_status(
     put_given(alloc, members, "reason", reason)
 }
 
-fn delivered(alloc: Global, stream: &Text) -> Result<Value, Memory> {
-    let mut members = called(alloc, "deliver")?;
+// A call of the operator on a stream, without further parts.
+fn of_stream(alloc: Global, name: &str, stream: &Text) -> Result<Value, Memory> {
+    let mut members = called(alloc, name)?;
     put_text(alloc, &mut members, "stream", stream.as_str())?;
+    Ok(Value::Object(members))
+}
+
+fn listed(alloc: Global, from: u64) -> Result<Value, Memory> {
+    let mut members = called(alloc, "streams")?;
+    put_value(alloc, &mut members, "from", Value::from(from))?;
     Ok(Value::Object(members))
 }
 

@@ -5,8 +5,8 @@ use crate::streams::conf_in;
 use sig_event::Status;
 use sig_http::Response;
 use sig_json::{Bytes, Items, Memory, Text, Value, list_of, present, text_of, value_named};
-use sig_lines::{said, spelled};
-use sig_terms::{Answer, Issued, StreamConf};
+use sig_lines::{number_at, said, spelled, valued};
+use sig_terms::{Answer, Issued, Standing, StreamConf};
 use sig_txroutes::response_of;
 use std::alloc::Global;
 
@@ -42,10 +42,23 @@ fn told(alloc: Global, answer: &Answer) -> Result<Bytes, Memory> {
 fn written(alloc: Global, response: &Response) -> Result<Bytes, Memory> {
     let code = response.status;
     let status = format!(in alloc; "{code}")?;
-    if response.body.as_slice().is_empty() {
+    let body = response.body.as_slice();
+    if body.is_empty() {
         return said(alloc, status.as_str(), b"-");
     }
-    said(alloc, status.as_str(), response.body.as_slice())
+    if body.contains(&b'\n') {
+        return lines_said(alloc, status.as_str(), body);
+    }
+    said(alloc, status.as_str(), body)
+}
+
+// A body of lines, as a text in JSON.
+fn lines_said(alloc: Global, status: &str, body: &[u8]) -> Result<Bytes, Memory> {
+    let Ok(text) = str::from_utf8(body) else {
+        return said(alloc, status, b"-");
+    };
+    let value = Value::String(String::from_str(alloc, text)?);
+    valued(alloc, status, &value)
 }
 
 fn answer_in(alloc: Global, case: &Value) -> Result<Option<Answer>, Memory> {
@@ -55,6 +68,8 @@ fn answer_in(alloc: Global, case: &Value) -> Result<Option<Answer>, Memory> {
         Some("confs") => all_standing(alloc, case),
         Some("state") => state(alloc, case),
         Some("published") => published(alloc, case),
+        Some("standings") => page_standing(alloc, case),
+        Some("figures") => figures(alloc, case),
         Some(name) => named(alloc, name),
         None => Ok(None),
     }
@@ -158,6 +173,63 @@ fn token_in(alloc: Global, item: &Value) -> Result<Option<Issued>, Memory> {
     Ok(Some(Issued {
         stream: Text::of(alloc, stream)?,
         number,
+    }))
+}
+
+fn page_standing(alloc: Global, case: &Value) -> Result<Option<Answer>, Memory> {
+    let Some(next) = number_at(case, "next") else {
+        return Ok(None);
+    };
+    match standings_at(alloc, case)? {
+        Some(standings) => Ok(Some(Answer::Standings { next, standings })),
+        None => Ok(None),
+    }
+}
+
+fn figures(alloc: Global, case: &Value) -> Result<Option<Answer>, Memory> {
+    let Some(publications) = number_at(case, "publications") else {
+        return Ok(None);
+    };
+    match standings_at(alloc, case)? {
+        Some(standings) => Ok(Some(Answer::Figures {
+            publications,
+            standings,
+        })),
+        None => Ok(None),
+    }
+}
+
+fn standings_at(alloc: Global, case: &Value) -> Result<Option<Items<Standing>>, Memory> {
+    let Some(list) = list_of(case, "standings") else {
+        return Ok(None);
+    };
+    let mut standings = Vec::new(alloc);
+    for item in list.as_slice() {
+        match standing_in(alloc, item)? {
+            Some(standing) => standings.push(standing)?,
+            None => return Ok(None),
+        }
+    }
+    Ok(Some(Items::of(standings)))
+}
+
+fn standing_in(alloc: Global, item: &Value) -> Result<Option<Standing>, Memory> {
+    let (Some(stream), Some(status)) = (text_of(item, "stream"), status_in(item)) else {
+        return Ok(None);
+    };
+    let (Some(owed), Some(made)) = (number_at(item, "owed"), number_at(item, "made")) else {
+        return Ok(None);
+    };
+    let oldest = number_at(item, "oldest");
+    if oldest.is_none() && present(item, "oldest") {
+        return Ok(None);
+    }
+    Ok(Some(Standing {
+        stream: Text::of(alloc, stream)?,
+        status,
+        owed,
+        oldest,
+        made,
     }))
 }
 

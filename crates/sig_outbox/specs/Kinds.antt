@@ -1,13 +1,15 @@
 -- The kinds of calls, each answered by its own part of the code.
 use Rattle.sig_terms.specs.declared.call.Call.{Call}
-use Rattle.sig_terms.specs.declared.call.Call.TheVariants.{Add, Create, Delete, Deliver, GetStatus, Hand, Metadata, OperatorStatus, Patch, Poll, Publish, Put, Read, ReadAll, Remove, SetStatus, Settle, Verify}
+use Rattle.sig_terms.specs.declared.call.Call.TheVariants.{Add, Create, Delete, Deliver, Figures, GetStatus, Hand, Metadata, OperatorDelete, OperatorStatus, Patch, Poll, Publish, Put, Read, ReadAll, Remove, SetStatus, Settle, Streams, Verify}
 
--- what the transmitter offers; configurations of streams; their statuses and subjects; tokens
+-- what the transmitter offers; configurations of streams; their statuses and subjects; tokens; what the operator sees of all
+-- streams
 pub data Kind : Type 0 where
   Offering : Kind
   Configuring : Kind
   Steering : Kind
   Telling : Kind
+  Overseeing : Kind
 
 abbrev pub kind_of : Call → Kind
 kind_of Metadata = Offering
@@ -25,6 +27,9 @@ kind_of (Verify client stream state) = Telling
 kind_of (Poll client stream ask) = Telling
 kind_of (Publish id news) = Telling
 kind_of (OperatorStatus stream status reason) = Telling
+kind_of (OperatorDelete stream) = Overseeing
+kind_of (Streams from) = Overseeing
+kind_of Figures = Overseeing
 kind_of (Deliver stream) = Telling
 kind_of (Hand streams) = Telling
 kind_of (Settle stream count outcome) = Telling

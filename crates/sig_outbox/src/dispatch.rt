@@ -1,16 +1,17 @@
 //! Each call, and what answers it.
 
-ghost use Rattle.std.specs.Prelude.{◌≡◌, IfOk, IfSome};
+ghost use Rattle.std.specs.Prelude.{◌≡◌, ℕ, IfOk, IfSome};
 ghost use Rattle.sig_json.specs.Answers.{Answers, result_map};
 ghost use Rattle.sig_calls.specs.Table.{prepared_of};
 ghost use Rattle.sig_ledger.specs.Books.{sum_in};
 ghost use Rattle.sig_ledger.specs.Room.{HasRoom};
 ghost use Rattle.sig_ledger.specs.Steps.{reply_in};
-ghost use Rattle.sig_outbox.specs.Kinds.{Configuring, Steering, Telling, kind_of};
+ghost use Rattle.sig_outbox.specs.Kinds.{Configuring, Overseeing, Steering, Telling, kind_of};
 
 use sig_ledger::{Ledger, Step};
 use sig_stream_calls::{
-    add, create, delete, get_status, patch, put, read, read_all, remove, set_status,
+    add, create, delete, figures, get_status, operator_delete, patch, put, read, read_all, remove,
+    set_status, streams,
 };
 use sig_terms::{Answer, Call, PrepareFault, Rules};
 use sig_token_calls::{deliver, hand, operator_status, poll, publish, settle, verify};
@@ -44,6 +45,23 @@ pub(crate) fn dispatch(
         | Call::Deliver { .. }
         | Call::Hand { .. }
         | Call::Settle { .. } => tell(ledger, call, now),
+        Call::OperatorDelete { .. } | Call::Streams { .. } | Call::Figures => oversee(ledger, call),
+    }
+}
+
+// How a call of the operator about all streams is answered.
+#[tactic(auto, unfolding(sig_calls::specs::Table::told_of))]
+fn oversee(ledger: &mut Ledger, call: &Call) -> Result<Step, PrepareFault>
+    requires { kind_of call.now ≡ Overseeing }
+    ensures keeps { ledger.new.books ≡ ledger.old.books }
+    ensures answers { (rules : Rules) (now : ℕ) → Answers PrepareFault.Memory (result_map reply_in result) (prepared_of rules (sum_in ledger.old.books) call.now now) }
+    ensures room { IfOk result (λ step. IfSome step.change (HasRoom (sum_in ledger.new.books).parts ledger.new.room)) }
+{
+    match call {
+        Call::OperatorDelete { stream } => operator_delete(ledger, stream),
+        Call::Streams { from } => streams(ledger, *from),
+        Call::Figures => figures(ledger),
+        _ => unreachable!(),
     }
 }
 

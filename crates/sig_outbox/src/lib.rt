@@ -22,5 +22,5 @@ pub use outbox::Outbox;
 pub use sig_ledger::{Prepared, Step};
 pub use sig_terms::{
     Answer, Call, Client, Defaults, Delivery, Fact, Issued, Outcome, PollAsk, PrepareFault,
-    Reported, Rules, SettledItem, StreamConf, Token, Want, delivers, fits,
+    Reported, Rules, SettledItem, Standing, StreamConf, Token, Want, delivers, fits,
 };

@@ -158,8 +158,12 @@ fn configure(
     }
 }
 
-// How a client deletes the stream that is found.
-fn delete_turn(alloc: Global, account: Option<&Account>, stream: &Text) -> Result<Turn, Memory>
+/// How the stream that is found is deleted.
+pub(crate) fn delete_turn(
+    alloc: Global,
+    account: Option<&Account>,
+    stream: &Text,
+) -> Result<Turn, Memory>
     ensures { IfOk result (λ t. with_change t.answer t.change
         ≡ told_by (λ (s : Stream). with_change answer.Gone (Some (fact.Deleted stream.now))) (option_map stream_in (option_map (λ a. a.now.owing) account.entry))) }
 {

@@ -2,7 +2,7 @@ ghost use Rattle.std.specs.Prelude.{◌≡◌, IfOk};
 
 use crate::comparing::{same_member, same_variant};
 use crate::copying::{copy_one, copy_one_with, copy_variant};
-use crate::{Issued, StreamConf, Token};
+use crate::{Issued, Standing, StreamConf, Token};
 use sig_event::Status;
 use sig_json::{Copied, Items, Memory, Same, Text, copy_items};
 use std::alloc::Global;
@@ -63,6 +63,20 @@ pub enum Answer {
         store_id: [u8; 16],
         /// The tokens that it made, in order of client name and stream number.
         tokens: Items<Issued>,
+    },
+    /// How a page of the streams of all clients stands.
+    Standings {
+        /// The place behind the last one that is told, among all streams.
+        next: u64,
+        /// How each one stands, in order of client name and number; at most 100.
+        standings: Items<Standing>,
+    },
+    /// The figures of the whole transmitter.
+    Figures {
+        /// How many publications stand.
+        publications: u64,
+        /// How each stream stands, in order of client name and number.
+        standings: Items<Standing>,
     },
     /// A round of pushes of this stream may begin.
     Delivering {
@@ -131,6 +145,11 @@ impl Drop for Answer {
                 store_id: _,
                 tokens,
             } => drop(tokens),
+            Answer::Standings { next: _, standings } => drop(standings),
+            Answer::Figures {
+                publications: _,
+                standings,
+            } => drop(standings),
             Answer::Delivering { stream } => drop(stream),
             Answer::Handed { tokens } => drop(tokens),
         }
@@ -152,6 +171,8 @@ impl Answer {
             Asked: copy_one(stream) plain(number),
             Sets: copy_items(tokens) plain(more),
             Published: copy_items(tokens) plain(store_id),
+            Standings: copy_items(standings) plain(next),
+            Figures: copy_items(standings) plain(publications),
             Delivering: copy_one(stream),
             Handed: copy_items(tokens),
         })
@@ -175,6 +196,8 @@ impl Same for Answer {
             Asked { stream ~ name, number ~ place },
             Sets { tokens ~ sent, more == further },
             Published { store_id == store, tokens ~ made },
+            Standings { next ~ behind, standings ~ told },
+            Figures { publications ~ many, standings ~ told },
             Delivering { stream ~ name },
             Handed { tokens ~ given },
             Settled { count ~ many },

@@ -126,6 +126,18 @@ pub enum Call {
         /// Why.
         reason: Option<Text>,
     },
+    /// The operator deletes a stream of any client, configured or not.
+    OperatorDelete {
+        /// The name of the stream.
+        stream: Text,
+    },
+    /// The operator reads how streams of all clients stand, a page at a time.
+    Streams {
+        /// The place of the first one among all streams, in order of client name and number, from 0.
+        from: u64,
+    },
+    /// The operator reads the figures of the whole transmitter.
+    Figures,
     /// The operator asks for a round of pushes of a stream.
     Deliver {
         /// The name of the stream.
@@ -244,6 +256,8 @@ impl Drop for Call {
                 drop(stream);
                 drop(reason);
             }
+            Call::OperatorDelete { stream } => drop(stream),
+            Call::Streams { from: _ } | Call::Figures => {}
             Call::Deliver { stream } => drop(stream),
             Call::Hand { streams } => drop(streams),
             Call::Settle {
@@ -298,7 +312,8 @@ impl Call {
         ensures { IfOk result (λ c. c ≡ self.now) }
     {
         copy_variant!(self, alloc, Call {
-            Metadata;;
+            Metadata, Figures;
+            Streams { from };
             Create: copy_two(client, want),
             ReadAll: copy_one(client),
             Read: copy_two(client, stream),
@@ -313,6 +328,7 @@ impl Call {
             Poll: copy_three(client, stream, ask),
             Publish: copy_two(id, news),
             OperatorStatus: copy_one_with(stream, reason) plain(status),
+            OperatorDelete: copy_one(stream),
             Deliver: copy_one(stream),
             Hand: copy_items(streams),
             Settle: copy_two(stream, outcome) plain(number),
@@ -329,7 +345,7 @@ impl Copied for Call {
 impl Same for Call {
     fn same(&self, other: &Call) -> bool {
         same_variant!(self, other, Call {
-            Metadata;
+            Metadata, Figures;
             Create { client ~ who, want ~ wish },
             ReadAll { client ~ who },
             Read { client ~ who, stream ~ name },
@@ -344,6 +360,8 @@ impl Same for Call {
             Poll { client ~ who, stream ~ name, ask ~ asked },
             Publish { id ~ name, news ~ what },
             OperatorStatus { stream ~ name, status ~ state, reason ~ why },
+            OperatorDelete { stream ~ name },
+            Streams { from ~ place },
             Deliver { stream ~ name },
             Hand { streams ~ names },
             Settle { stream ~ name, number ~ place, outcome ~ end },

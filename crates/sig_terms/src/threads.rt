@@ -2,7 +2,7 @@
 
 use crate::{
     Answer, Call, Client, Defaults, Delivery, Endpoint, Fact, Issued, Outcome, PollAsk,
-    PrepareFault, Reported, Rules, SettledItem, StreamConf, Token, Want,
+    PrepareFault, Reported, Rules, SettledItem, Standing, StreamConf, Token, Want,
 };
 use sig_json::crosses_threads;
 
@@ -21,6 +21,7 @@ fn types_cross() {
     crosses_threads::<Reported>();
     crosses_threads::<Rules>();
     crosses_threads::<SettledItem>();
+    crosses_threads::<Standing>();
     crosses_threads::<StreamConf>();
     crosses_threads::<Token>();
     crosses_threads::<Want>();

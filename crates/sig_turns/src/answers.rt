@@ -7,7 +7,7 @@ use sig_lines::{
     bare, defaults_text, delivery_value, encoded_text, named, requested_value, said, spelled,
     text_or_null, texts_value, valued,
 };
-use sig_outbox::{Answer, Issued, StreamConf, Token};
+use sig_outbox::{Answer, Issued, Standing, StreamConf, Token};
 use sig_set::payload_text;
 use sig_stream::Endpoint;
 use std::alloc::Global;
@@ -28,6 +28,11 @@ pub fn told(alloc: Global, answer: &Answer) -> Result<Bytes, Memory> {
         Answer::Sets { tokens, more } => offered(alloc, tokens.as_slice(), *more),
         Answer::Published { store_id, tokens } => published(alloc, *store_id, tokens.as_slice()),
         Answer::Handed { tokens } => handed(alloc, tokens.as_slice()),
+        Answer::Standings { next, standings } => listed(alloc, *next, standings.as_slice()),
+        Answer::Figures {
+            publications,
+            standings,
+        } => figured(alloc, *publications, standings.as_slice()),
         Answer::Meta => bare(alloc, "meta"),
         Answer::Gone => bare(alloc, "gone"),
         Answer::Added => bare(alloc, "added"),
@@ -159,4 +164,38 @@ fn published(alloc: Global, store_id: [u8; 16], tokens: &[Issued]) -> Result<Byt
     let tokens = Value::Array(values);
     let value = json!(in alloc; {"store": store.as_str(), "tokens": tokens})?;
     valued(alloc, "published", &value)
+}
+
+fn listed(alloc: Global, next: u64, standings: &[Standing]) -> Result<Bytes, Memory> {
+    let streams = standings_value(alloc, standings)?;
+    let value = json!(in alloc; {"next": next, "streams": streams})?;
+    valued(alloc, "standings", &value)
+}
+
+fn figured(alloc: Global, publications: u64, standings: &[Standing]) -> Result<Bytes, Memory> {
+    let streams = standings_value(alloc, standings)?;
+    let value = json!(in alloc; {"publications": publications, "streams": streams})?;
+    valued(alloc, "figures", &value)
+}
+
+fn standings_value(alloc: Global, standings: &[Standing]) -> Result<Value, Memory> {
+    let mut values = Vec::new(alloc);
+    for standing in standings {
+        values.push(standing_value(alloc, standing)?)?;
+    }
+    Ok(Value::Array(values))
+}
+
+fn standing_value(alloc: Global, standing: &Standing) -> Result<Value, Memory> {
+    let oldest = match standing.oldest {
+        Some(time) => Value::from(time),
+        None => Value::Null,
+    };
+    Ok(json!(in alloc; {
+        "made": standing.made,
+        "oldest": oldest,
+        "owed": standing.owed,
+        "status": standing.status.as_str(),
+        "stream": standing.stream.as_str()
+    })?)
 }

@@ -33,6 +33,9 @@ fn call_on_tokens(alloc: Global, name: &str, case: &Value) -> Result<Option<Call
         "poll" => poll(alloc, case),
         "publish" => publish(alloc, case),
         "operator_status" => operator_status(alloc, case),
+        "operator_delete" => operator_delete(alloc, case),
+        "streams" => Ok(streams(case)),
+        "figures" => Ok(Some(Call::Figures)),
         "deliver" => deliver(alloc, case),
         "hand" => hand(alloc, case),
         "settle" => settle(alloc, case),
@@ -172,6 +175,18 @@ fn operator_status(alloc: Global, case: &Value) -> Result<Option<Call>, Memory> 
         })),
         None => Ok(None),
     }
+}
+
+fn operator_delete(alloc: Global, case: &Value) -> Result<Option<Call>, Memory> {
+    match copy_member(alloc, case, "stream")? {
+        Some(stream) => Ok(Some(Call::OperatorDelete { stream })),
+        None => Ok(None),
+    }
+}
+
+fn streams(case: &Value) -> Option<Call> {
+    let from = number_at(case, "from")?;
+    Some(Call::Streams { from })
 }
 
 fn about(alloc: Global, case: &Value) -> Result<Option<Subject>, Memory> {

@@ -34,9 +34,10 @@ use Rattle.sig_stream.specs.Wants.{want_of}
 use Rattle.sig_stream.proofs.ProperPublications.{reads_proper_publications}
 use Rattle.sig_txroutes.specs.declared.body.StatusSaid.{StatusSaid}
 use Rattle.sig_txroutes.specs.Bodies.{object_in, optional_text, place_in_publication, place_in_want, refused_as, status_in, status_said, stream_in, subject_at, subject_in, text_at, want_in}
-use Rattle.sig_txroutes.specs.Calls.{body_call, by_body, by_operator, by_poll, by_query, by_route, call_of, change_call, client_among, client_by, create_call, is_long, named_stream, operated, operator_call, poll_with, query_call, routed_of, shows, subject_call, too_long}
+use Rattle.sig_txroutes.specs.Calls.{body_call, by_body, by_operator, by_operator_query, by_poll, by_query, by_route, call_of, change_call, client_among, client_by, create_call, is_long, named_stream, operated, operator_call, operator_query, poll_with, query_call, routed_of, shows, subject_call, too_long}
 use Rattle.sig_txroutes.specs.Laws.{Asker, Anybody, Named, Operator, Itself, AreApart, BearersDecide, ClientsAskForThemselves, HasBearer, IsFor, IsOf, IsProperOf, MayAskAs, OperatorsAskForThemselves, RequestsMakeProperCalls, RoutesExactly, asker_of}
 use Rattle.sig_txroutes.specs.Routes.{polled_in, route_for}
+use Rattle.sig_txroutes.specs.Places.{place_of}
 use Rattle.sig_txroutes.specs.declared.route.Route.{Route}
 use Rattle.sig_txroutes.specs.declared.route.Route.TheVariants as route
 use Rattle.sig_txroutes.specs.declared.route.QueryCall.{QueryCall}
@@ -45,6 +46,8 @@ use Rattle.sig_txroutes.specs.declared.route.BodyCall.{BodyCall}
 use Rattle.sig_txroutes.specs.declared.route.BodyCall.TheVariants as body
 use Rattle.sig_txroutes.specs.declared.route.OperatorCall.{OperatorCall}
 use Rattle.sig_txroutes.specs.declared.route.OperatorCall.TheVariants as operator
+use Rattle.sig_txroutes.specs.declared.route.OperatorQuery.{OperatorQuery}
+use Rattle.sig_txroutes.specs.declared.route.OperatorQuery.TheVariants as overseen
 use Rattle.sig_txroutes.proofs.RouteLemmas.{found_is, ok_or_some, route_at, route_is, text_is}
 
 -- ---- steps
@@ -281,6 +284,16 @@ operator_good operator.Deliver request rules d made s h =
     let (stream, at, is) = mapped call.Deliver (stream_in d) made h in
     good_as request rules Operator (call.Deliver stream) made is refl tt
 
+operator_query_good : (o : OperatorQuery) (request : Request) (rules : Rules) (made : Call) → operator_query o request.query ≡ Ok made
+    → IsGood request rules Operator made
+operator_query_good overseen.Delete request rules made h =
+    let (stream, at, is) = mapped call.OperatorDelete (named_stream (value_in request.query (codes "stream_id"))) made h in
+    good_as request rules Operator (call.OperatorDelete stream) made is refl tt
+operator_query_good overseen.Streams request rules made h =
+    let (from, at, is) = mapped call.Streams (place_of (value_in request.query (codes "from"))) made h in
+    good_as request rules Operator (call.Streams from) made is refl tt
+operator_query_good overseen.Figures request rules made h = good_as request rules Operator call.Figures made (ok_same _ made h) refl tt
+
 query_proper : (q : QueryCall) (request : Request) (rules : Rules) (client : List ℕ) (stream : Option (List ℕ)) (made : Call) → query_call q client stream ≡ Ok made
     → IsProperOf request rules made
 query_proper query.Read request rules client None made h = subst (IsProperOf request rules) (ok_same _ made h) tt
@@ -338,12 +351,22 @@ operator_asked o request rules asked h = at (shows request.bearer rules.operator
         let good = operator_good o request rules d asked (spelled request.body d reads) says in
         asked_call request rules Operator asked (is_shown request.bearer rules.operator shown) good.asks good.proper
 
+operator_query_asked : (o : OperatorQuery) (request : Request) (rules : Rules) (asked : Call) → by_operator_query o request rules ≡ Ok asked → IsAsked request rules asked
+operator_query_asked o request rules asked h = at (shows request.bearer rules.operator) refl h
+  where
+    at : (t : Bool) → shows request.bearer rules.operator ≡ t → ◌≡◌ {A = Result Call HttpRefusal} (if t then operator_query o request.query else Err refusal.Auth) (Ok asked) → IsAsked request rules asked
+    at false shown h = cc
+    at true shown h =
+        let good = operator_query_good o request rules asked h in
+        asked_call request rules Operator asked (is_shown request.bearer rules.operator shown) good.asks good.proper
+
 route_asked : (r : Route) (request : Request) (rules : Rules) (asked : Call) → by_route r request rules ≡ Ok asked → IsAsked request rules asked
 route_asked route.Metadata request rules asked h = subst (IsAsked request rules) (ok_same _ asked h) (record { may = tt; proper = tt })
 route_asked (route.Query q) request rules asked h = query_asked q request rules asked h
 route_asked (route.Body b) request rules asked h = body_asked b request rules asked h
 route_asked route.Poll request rules asked h = poll_asked request rules asked h
 route_asked (route.Operator o) request rules asked h = operator_asked o request rules asked h
+route_asked (route.OperatorQuery o) request rules asked h = operator_query_asked o request rules asked h
 
 is_asked : (request : Request) (rules : Rules) (asked : Call) → call_of request rules ≡ Ok asked → IsAsked request rules asked
 is_asked request rules asked h =

@@ -14,6 +14,7 @@ use Rattle.sig_txroutes.specs.declared.route.Route.TheVariants as route
 use Rattle.sig_txroutes.specs.declared.route.QueryCall.TheVariants as query
 use Rattle.sig_txroutes.specs.declared.route.BodyCall.TheVariants as body
 use Rattle.sig_txroutes.specs.declared.route.OperatorCall.TheVariants as operator
+use Rattle.sig_txroutes.specs.declared.route.OperatorQuery.TheVariants as overseen
 
 pub text_is : (a b : List ℕ) → bytes_eq a b ≡ true → a ≡ b
 text_is a b h = (bytes_eq-Decides a b).0 h
@@ -75,3 +76,6 @@ route_at route.Poll path h = subst (λ p. route_for (codes "POST") p ≡ Ok rout
 route_at (route.Operator operator.Publish) path h = exactly (route.Operator operator.Publish) path (codes "/operator/publish") h refl
 route_at (route.Operator operator.SetStatus) path h = exactly (route.Operator operator.SetStatus) path (codes "/operator/status") h refl
 route_at (route.Operator operator.Deliver) path h = exactly (route.Operator operator.Deliver) path (codes "/operator/deliver") h refl
+route_at (route.OperatorQuery overseen.Delete) path h = exactly (route.OperatorQuery overseen.Delete) path (codes "/operator/stream") h refl
+route_at (route.OperatorQuery overseen.Streams) path h = exactly (route.OperatorQuery overseen.Streams) path (codes "/operator/streams") h refl
+route_at (route.OperatorQuery overseen.Figures) path h = exactly (route.OperatorQuery overseen.Figures) path (codes "/operator/metrics") h refl

@@ -3,17 +3,18 @@ use Rattle.std.proofs.Common.{◌≡◌, ◌||◌, ℕ, List, [], ◌∷◌, Boo
 use Rattle.std.specs.Prelude.{IfSome, option_map}
 use Rattle.std.specs.Cmp.Lexicographic.{slice_cmp}
 use Rattle.std.specs.Ordering.{match_ordering}
-use Rattle.serde_json.specs.Data.{Data, string, Members, no_members, member, put}
+use Rattle.serde_json.specs.Data.{Data, string, number, unsigned, Members, no_members, member, put}
 use Rattle.serde_json.specs.Written.{has_float, members_have_float}
 use Rattle.sig_event.specs.declared.status.Status.{Status}
 use Rattle.sig_terms.specs.declared.configuration.StreamConf.{StreamConf}
 use Rattle.sig_terms.specs.declared.rules.Rules.{Rules}
+use Rattle.sig_terms.specs.declared.standing.Standing.{Standing}
 use Rattle.sig_terms.specs.declared.token.Issued.{Issued}
 use Rattle.sig_terms.specs.declared.want.Delivery.{Delivery}
 use Rattle.sig_terms.specs.declared.want.Delivery.TheVariants.{Poll, Push}
 use Rattle.sig_stream.specs.Configurations.{audience_data, conf_data, delivered, delivery_data, fixed_members, put_given, supported, texts_data}
 use Rattle.sig_stream.specs.Wants.{push_method}
-use Rattle.sig_txroutes.specs.Documents.{confs_data, metadata, published_data, status_data, tokens_data}
+use Rattle.sig_txroutes.specs.Documents.{confs_data, metadata, published_data, standing_data, standings_data, status_data, streams_data, tokens_data}
 
 neither : (a b : Bool) → a ≡ false → b ≡ false → a || b ≡ false
 neither a b h k = rw (h, k) refl
@@ -93,3 +94,19 @@ tokens_whole store_id (token ∷ tokens) = tokens_whole store_id tokens
 
 pub published_whole : (store_id : List ℕ) (tokens : List Issued) → has_float (published_data store_id tokens) ≡ false
 published_whole store_id tokens = neither (has_float (tokens_data store_id tokens)) false (tokens_whole store_id tokens) refl
+
+-- ---- how streams stand
+
+oldest_whole : (o : Option ℕ) → IfSome (option_map (λ t. number (unsigned t)) o) (λ d. has_float d ≡ false)
+oldest_whole None = tt
+oldest_whole (Some t) = refl
+
+standing_whole : (s : Standing) → has_float (standing_data s) ≡ false
+standing_whole s = given_whole (codes "oldest") (option_map (λ t. number (unsigned t)) s.oldest) _ (oldest_whole s.oldest) refl
+
+streams_whole : (standings : List Standing) → has_float (streams_data standings) ≡ false
+streams_whole [] = refl
+streams_whole (s ∷ standings) = neither (has_float (standing_data s)) (has_float (streams_data standings)) (standing_whole s) (streams_whole standings)
+
+pub standings_whole : (next : ℕ) (standings : List Standing) → has_float (standings_data next standings) ≡ false
+standings_whole next standings = neither (has_float (streams_data standings)) false (streams_whole standings) refl

@@ -19,6 +19,7 @@ use Rattle.sig_delivery.specs.Asks.{ask_of}
 use Rattle.sig_delivery.specs.declared.fault.BodyFault.{BodyFault}
 use Rattle.sig_delivery.specs.declared.fault.BodyFault.TheVariants as fault
 use Rattle.sig_txroutes.specs.Bodies.{object_in, optional_text, publication_in, status_said, stream_in, subject_in, want_in}
+use Rattle.sig_txroutes.specs.Places.{place_of}
 use Rattle.sig_txroutes.specs.Routes.{polled_in, route_for}
 use Rattle.sig_txroutes.specs.declared.route.Route.{Route}
 use Rattle.sig_txroutes.specs.declared.route.Route.TheVariants as route
@@ -28,6 +29,8 @@ use Rattle.sig_txroutes.specs.declared.route.BodyCall.{BodyCall}
 use Rattle.sig_txroutes.specs.declared.route.BodyCall.TheVariants as body
 use Rattle.sig_txroutes.specs.declared.route.OperatorCall.{OperatorCall}
 use Rattle.sig_txroutes.specs.declared.route.OperatorCall.TheVariants as operator
+use Rattle.sig_txroutes.specs.declared.route.OperatorQuery.{OperatorQuery}
+use Rattle.sig_txroutes.specs.declared.route.OperatorQuery.TheVariants as overseen
 
 -- ---- bearers (RFC 6750, section 2.1), compared byte for byte
 
@@ -113,6 +116,14 @@ operator_call operator.Publish d = publication_in d
 operator_call operator.SetStatus d = operator_status_call d
 operator_call operator.Deliver d = result_map call.Deliver (stream_in d)
 
+-- ---- the operator's call by its query
+
+-- `stream_id`, `from`, and nothing
+abbrev pub operator_query : OperatorQuery → List ℕ → Result Call HttpRefusal
+operator_query overseen.Delete query = result_map call.OperatorDelete (named_stream (value_in query (codes "stream_id")))
+operator_query overseen.Streams query = result_map call.Streams (place_of (value_in query (codes "from")))
+operator_query overseen.Figures query = Ok call.Figures
+
 -- ---- a poll of a client's stream (RFC 8936, section 2.4)
 
 -- a body that asks nothing is wrong where it is wrong
@@ -151,12 +162,17 @@ abbrev pub by_operator : OperatorCall → Request → Rules → Result Call Http
 by_operator o request rules =
     if shows request.bearer rules.operator then operated o request else Err refusal.Auth
 
+abbrev pub by_operator_query : OperatorQuery → Request → Rules → Result Call HttpRefusal
+by_operator_query o request rules =
+    if shows request.bearer rules.operator then operator_query o request.query else Err refusal.Auth
+
 abbrev pub by_route : Route → Request → Rules → Result Call HttpRefusal
 by_route route.Metadata request rules = Ok call.Metadata
 by_route (route.Query q) request rules = by_query q request rules
 by_route (route.Body b) request rules = by_body b request rules
 by_route route.Poll request rules = by_poll request rules
 by_route (route.Operator o) request rules = by_operator o request rules
+by_route (route.OperatorQuery o) request rules = by_operator_query o request rules
 
 -- what a request asks, whatever its size: first its path decides, then its method, its bearer, and last its query or its body
 unfoldable pub routed_of : Request → Rules → Result Call HttpRefusal

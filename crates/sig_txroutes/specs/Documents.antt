@@ -1,12 +1,13 @@
 -- What the transmitter tells in JSON (OpenID Shared Signals Framework 1.0, sections 7.1 and 8.1).
 use Rattle.std.specs.Prelude.{ℕ, List, [], ◌∷◌, ◌++◌, map, Option, option_map, codes, decimal}
-use Rattle.serde_json.specs.Data.{Data, string, array, object, Members, no_members, member, put}
+use Rattle.serde_json.specs.Data.{Data, string, array, object, number, unsigned, Members, no_members, member, put}
 use Rattle.serde_json.specs.View.{items_of}
 use Rattle.uuid.specs.Text.{hyphenated_text, lower}
 use Rattle.sig_event.specs.Status.{status_text}
 use Rattle.sig_event.specs.declared.status.Status.{Status}
 use Rattle.sig_terms.specs.declared.configuration.StreamConf.{StreamConf}
 use Rattle.sig_terms.specs.declared.rules.Rules.{Rules}
+use Rattle.sig_terms.specs.declared.standing.Standing.{Standing}
 use Rattle.sig_terms.specs.declared.token.Issued.{Issued}
 use Rattle.sig_terms.specs.declared.want.Defaults.{Defaults}
 use Rattle.sig_terms.specs.declared.want.Defaults.TheVariants as defaults
@@ -79,3 +80,23 @@ tokens_data store_id tokens = array (items_of (map (token_data store_id) tokens)
 -- the tokens that a publication made
 abbrev pub published_data : List ℕ → List Issued → Data
 published_data store_id tokens = object (member (codes "tokens") (tokens_data store_id tokens) no_members)
+
+-- ---- how streams stand, for the operator
+
+-- a stream's name and status, how many tokens it owes, how many were made, and where it owes one when the first was made
+abbrev pub standing_data : Standing → Data
+standing_data s = object
+    (put_given (codes "oldest") (option_map (λ t. number (unsigned t)) s.oldest)
+    (member (codes "made") (number (unsigned s.made))
+    (member (codes "owed") (number (unsigned s.owed))
+    (member (codes "status") (string (status_text s.status))
+    (member (codes "stream_id") (string s.stream) no_members)))))
+
+abbrev pub streams_data : List Standing → Data
+streams_data standings = array (items_of (map standing_data standings))
+
+-- a page of them, with the place behind it
+abbrev pub standings_data : ℕ → List Standing → Data
+standings_data next standings = object
+    (member (codes "next") (number (unsigned next))
+    (member (codes "streams") (streams_data standings) no_members))

@@ -9,6 +9,7 @@ use Rattle.sig_txroutes.specs.declared.route.Route.TheVariants as route
 use Rattle.sig_txroutes.specs.declared.route.QueryCall.TheVariants as query
 use Rattle.sig_txroutes.specs.declared.route.BodyCall.TheVariants as body
 use Rattle.sig_txroutes.specs.declared.route.OperatorCall.TheVariants as operator
+use Rattle.sig_txroutes.specs.declared.route.OperatorQuery.TheVariants as overseen
 
 -- a row of the table: the method, the path, and whether a stream's name follows that path
 pub record Row : Type 0 where
@@ -40,6 +41,9 @@ row_of route.Poll = under (codes "POST") (codes "/poll/")
 row_of (route.Operator operator.Publish) = at (codes "POST") (codes "/operator/publish")
 row_of (route.Operator operator.SetStatus) = at (codes "POST") (codes "/operator/status")
 row_of (route.Operator operator.Deliver) = at (codes "POST") (codes "/operator/deliver")
+row_of (route.OperatorQuery overseen.Delete) = at (codes "DELETE") (codes "/operator/stream")
+row_of (route.OperatorQuery overseen.Streams) = at (codes "GET") (codes "/operator/streams")
+row_of (route.OperatorQuery overseen.Figures) = at (codes "GET") (codes "/operator/metrics")
 
 -- every route, in the order of the table
 unfoldable pub routes : List Route
@@ -51,6 +55,7 @@ routes =
     ∷ route.Body body.Verify
     ∷ route.Poll
     ∷ route.Operator operator.Publish ∷ route.Operator operator.SetStatus ∷ route.Operator operator.Deliver
+    ∷ route.OperatorQuery overseen.Delete ∷ route.OperatorQuery overseen.Streams ∷ route.OperatorQuery overseen.Figures
     ∷ []
 
 -- the path is the row's, or goes on from it with a stream's name

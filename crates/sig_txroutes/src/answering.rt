@@ -5,20 +5,22 @@ ghost use Rattle.serde_json.specs.View.{view};
 ghost use Rattle.serde_json.specs.Written.{compact_text, has_float};
 ghost use Rattle.sig_txroutes.specs.Answers as spec;
 ghost use Rattle.sig_txroutes.specs.Documents as documents;
+ghost use Rattle.sig_txroutes.specs.Metrics as metrics;
 
-use crate::document::{confs_value, metadata, published_value, status_value};
+use crate::document::{confs_value, metadata, published_value, standings_value, status_value};
+use crate::metrics::metrics_text;
 use sig_delivery::{Token, write_sets};
 use sig_event::Status;
-use sig_http::{HttpRefusal, Response, empty, header, json, refusal_of};
+use sig_http::{HttpRefusal, Response, empty, header, json, no_store, refusal_of};
 use sig_json::{Bytes, Items, Memory, Text, Value, canon};
 use sig_stream::conf_json;
-use sig_terms::{Answer, Issued, Rules, StreamConf};
+use sig_terms::{Answer, Issued, Rules, Standing, StreamConf};
 use std::alloc::Global;
 
 /// The response to an answer, which has one status: 200 for what was read, changed, published or added, 201 for a new
 /// stream, 202 for a round of pushes that may begin, 204 where nothing is told, 404 where there is no such stream, 409
 /// where it can't be so, 429 where it is too early, and 400 at `long` where a token would be too long. It leaves the link
-/// open. A page of tokens is 200, signed by the key of the rules. No cache may keep it but what the transmitter offers. What a
+/// open. A page of tokens is 200, signed by the key of the rules. Figures are 200, in Prometheus' text format. No cache may keep it but what the transmitter offers. What a
 /// round of pushes is handed or settles is told to no request, and would be 500. Out of memory is the only error.
 pub fn response_of(alloc: Global, answer: &Answer, rules: &Rules) -> Result<Response, Memory>
     ensures { IfOk result (λ response. response ≡ spec.reply answer.now rules.now) }
@@ -35,6 +37,11 @@ pub fn response_of(alloc: Global, answer: &Answer, rules: &Rules) -> Result<Resp
             ..
         } => standing(alloc, stream, *status, reason),
         Answer::Published { store_id, tokens } => published(alloc, *store_id, tokens.as_slice()),
+        Answer::Standings { next, standings } => listed(alloc, *next, standings.as_slice()),
+        Answer::Figures {
+            publications,
+            standings,
+        } => figured(alloc, *publications, standings.as_slice()),
         Answer::Added => empty(alloc, 200),
         Answer::Delivering { .. } => empty(alloc, 202),
         Answer::Gone | Answer::Removed | Answer::Asked { .. } => empty(alloc, 204),
@@ -108,6 +115,32 @@ fn published(alloc: Global, store_id: [u8; 16], tokens: &[Issued]) -> Result<Res
 {
     let value = published_value(alloc, store_id, tokens)?;
     telling(alloc, 200, &value)
+}
+
+// How streams stand, and the place behind them.
+#[tactic(auto, using(crate::proofs::WholeDocuments::standings_whole))]
+fn listed(alloc: Global, next: u64, standings: &[Standing]) -> Result<Response, Memory>
+    ensures { IfOk result (λ response. response ≡ spec.telling 200 (documents.standings_data next standings.now)) }
+{
+    let value = standings_value(alloc, next, standings)?;
+    telling(alloc, 200, &value)
+}
+
+// The figures of the transmitter, in Prometheus' text format.
+fn figured(alloc: Global, publications: u64, standings: &[Standing]) -> Result<Response, Memory>
+    ensures { IfOk result (λ response. response ≡ metrics.figured publications standings.now) }
+{
+    let text = metrics_text(alloc, publications, standings)?;
+    let body = Bytes::of(alloc, text.as_str().as_bytes())?;
+    let mut headers = Vec::new(alloc);
+    headers.push(header(alloc, "content-type", "text/plain; version=0.0.4")?)?;
+    headers.push(no_store(alloc)?)?;
+    Ok(Response {
+        status: 200,
+        headers: Items::of(headers),
+        close: false,
+        body,
+    })
 }
 
 // The response that tells a value in which no fraction stands.

@@ -44,7 +44,8 @@ fn read_call(client: Text, stream: Option<Text>) -> Call
     }
 }
 
-fn named_stream(alloc: Global, stream: Option<Text>) -> Result<Text, HttpRefusal>
+/// The stream that a query has to name.
+pub fn named_stream(alloc: Global, stream: Option<Text>) -> Result<Text, HttpRefusal>
     ensures { Answers HttpRefusal.Memory result (spec.named_stream stream) }
 {
     match stream {

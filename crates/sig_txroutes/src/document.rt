@@ -1,7 +1,7 @@
 //! What the transmitter tells in JSON.
 
 ghost use Rattle.std.specs.Prelude.{◌≡◌, IfOk, OnOk, codes, option_map};
-ghost use Rattle.serde_json.specs.Data.{put, string};
+ghost use Rattle.serde_json.specs.Data.{number, put, string, unsigned};
 ghost use Rattle.serde_json.specs.View.{members_view, view};
 ghost use Rattle.sig_stream.specs.Configurations.{put_given};
 ghost use Rattle.sig_txroutes.specs.Documents as spec;
@@ -11,7 +11,7 @@ use serde_json::{Map, json};
 use sig_event::Status;
 use sig_json::{Listed, Memory, Text, Value, put_value};
 use sig_stream::conf_json;
-use sig_terms::{Defaults, Issued, Rules, StreamConf};
+use sig_terms::{Defaults, Issued, Rules, Standing, StreamConf};
 use std::alloc::Global;
 use uuid::Uuid;
 
@@ -176,6 +176,55 @@ fn token_id(alloc: Global, store_id: [u8; 16], token: &Issued) -> Result<Text, M
     let stream = token.stream.as_str();
     let number = token.number;
     Ok(Text::from_string(format!(in alloc; "{store}.{stream}.{number}")?))
+}
+
+/// A page of how streams stand, with the place behind it.
+pub fn standings_value(alloc: Global, next: u64, standings: &[Standing]) -> Result<Value, Memory>
+    ensures { IfOk result (λ v. view v ≡ spec.standings_data next standings.now) }
+{
+    let streams = streams_value(alloc, standings)?;
+    let mut members = Map::new(alloc);
+    put_value(alloc, &mut members, "next", Value::from(next))?;
+    put_value(alloc, &mut members, "streams", streams)?;
+    Ok(Value::Object(members))
+}
+
+fn streams_value(alloc: Global, standings: &[Standing]) -> Result<Value, Memory>
+    ensures { IfOk result (λ v. view v ≡ spec.streams_data standings.now) }
+{
+    let mut values = Vec::new(alloc);
+    for standing in standings {
+        values.push(standing_value(alloc, standing)?)?;
+    }
+    Ok(Value::Array(values))
+}
+
+fn standing_value(alloc: Global, standing: &Standing) -> Result<Value, Memory>
+    ensures { IfOk result (λ v. view v ≡ spec.standing_data standing.now) }
+{
+    let status = text_value(alloc, standing.status.as_str())?;
+    let stream = text_value(alloc, standing.stream.as_str())?;
+    let mut members = Map::new(alloc);
+    put_value(alloc, &mut members, "made", Value::from(standing.made))?;
+    put_value(alloc, &mut members, "owed", Value::from(standing.owed))?;
+    put_value(alloc, &mut members, "status", status)?;
+    put_value(alloc, &mut members, "stream_id", stream)?;
+    put_oldest(alloc, &mut members, standing.oldest)?;
+    Ok(Value::Object(members))
+}
+
+fn put_oldest(
+    alloc: Global,
+    members: &mut Map<String, Value>,
+    oldest: Option<u64>,
+) -> Result<(), Memory>
+    ensures { OnOk result (members_view members.new.entries
+        ≡ put_given (codes "oldest") (option_map (λ t. number (unsigned t)) oldest) (members_view members.old.entries)) }
+{
+    match oldest {
+        Some(time) => put_value(alloc, members, "oldest", Value::from(time)),
+        None => Ok(()),
+    }
 }
 
 fn text_value(alloc: Global, text: &str) -> Result<Value, Memory>

@@ -9,7 +9,7 @@
 //!     method, path -> route -> bearer -> query or body -> call
 //!     (`route`)                (`bearer`)  (`body`)       (`client`, `operator`)
 //!     answer -> status, and a document in JSON
-//!     (`answering`)        (`document`)
+//!     (`answering`)        (`document`), or the text of `metrics`
 //! ```
 //!
 //! Promised: a request makes the call of the route with its path and method, where the bearer is the route's and the
@@ -27,7 +27,9 @@ mod body;
 mod client;
 mod document;
 pub mod laws;
+mod metrics;
 mod operator;
+mod place;
 mod route;
 mod routing;
 

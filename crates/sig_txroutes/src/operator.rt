@@ -6,8 +6,10 @@ ghost use Rattle.sig_json.specs.Answers.{Answers};
 ghost use Rattle.sig_txroutes.specs.Calls as spec;
 
 use crate::body::{publication_in, status_said, stream_in};
-use crate::route::OperatorCall;
-use sig_http::HttpRefusal;
+use crate::client::named_stream;
+use crate::place::from_in;
+use crate::route::{OperatorCall, OperatorQuery};
+use sig_http::{HttpRefusal, query_value};
 use sig_json::Value;
 use sig_terms::Call;
 use std::alloc::Global;
@@ -34,4 +36,23 @@ fn status_call(alloc: Global, body: &Value) -> Result<Call, HttpRefusal>
         status: said.status,
         reason: said.reason,
     })
+}
+
+/// The call of the operator that a query says. `Bad` comes at `stream_id` where a stream has to be named and none is, and at
+/// `from` where that is no place.
+pub fn operator_query(alloc: Global, route: OperatorQuery, query: &str) -> Result<Call, HttpRefusal>
+    ensures { Answers HttpRefusal.Memory result (spec.operator_query route query.now) }
+{
+    match route {
+        OperatorQuery::Delete => {
+            let stream = query_value(alloc, query, "stream_id")?;
+            Ok(Call::OperatorDelete {
+                stream: named_stream(alloc, stream)?,
+            })
+        }
+        OperatorQuery::Streams => Ok(Call::Streams {
+            from: from_in(alloc, query)?,
+        }),
+        OperatorQuery::Figures => Ok(Call::Figures),
+    }
 }

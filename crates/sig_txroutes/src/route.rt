@@ -22,6 +22,8 @@ pub enum Route {
     Poll,
     /// The operator makes a call that the body says.
     Operator(OperatorCall),
+    /// The operator makes a call that the query says.
+    OperatorQuery(OperatorQuery),
 }
 
 /// A call of a client that the query says (OpenID Shared Signals Framework 1.0, section 8.1).
@@ -63,6 +65,17 @@ pub enum OperatorCall {
     SetStatus,
     /// It asks for a round of pushes of a stream.
     Deliver,
+}
+
+/// A call of the operator, which the query says.
+#[derive(Clone, Copy, PartialEq, Eq)]
+pub enum OperatorQuery {
+    /// It deletes a stream of any client.
+    Delete,
+    /// It reads how the streams of all clients stand.
+    Streams,
+    /// It reads the figures of the transmitter.
+    Figures,
 }
 
 /// A row of the table: the method, the path, and whether a stream's name follows that path.
@@ -107,6 +120,9 @@ impl Route {
             Route::Operator(OperatorCall::Publish),
             Route::Operator(OperatorCall::SetStatus),
             Route::Operator(OperatorCall::Deliver),
+            Route::OperatorQuery(OperatorQuery::Delete),
+            Route::OperatorQuery(OperatorQuery::Streams),
+            Route::OperatorQuery(OperatorQuery::Figures),
         ]
     }
 
@@ -137,6 +153,9 @@ impl Route {
             Route::Operator(OperatorCall::Publish) => at("POST", "/operator/publish"),
             Route::Operator(OperatorCall::SetStatus) => at("POST", "/operator/status"),
             Route::Operator(OperatorCall::Deliver) => at("POST", "/operator/deliver"),
+            Route::OperatorQuery(OperatorQuery::Delete) => at("DELETE", "/operator/stream"),
+            Route::OperatorQuery(OperatorQuery::Streams) => at("GET", "/operator/streams"),
+            Route::OperatorQuery(OperatorQuery::Figures) => at("GET", "/operator/metrics"),
         }
     }
 

@@ -8,8 +8,8 @@ ghost use Rattle.sig_txroutes.specs.Calls as spec;
 use crate::bearer::{client_by, shows};
 use crate::body::object_in;
 use crate::client::{body_call, query_call};
-use crate::operator::operator_call;
-use crate::route::{BodyCall, OperatorCall, QueryCall, Route, polled_in, route_for};
+use crate::operator::{operator_call, operator_query};
+use crate::route::{BodyCall, OperatorCall, OperatorQuery, QueryCall, Route, polled_in, route_for};
 use sig_delivery::{BodyFault, read_ask};
 use sig_http::{HttpRefusal, Request, query_value};
 use sig_json::limits::REQUEST_BODY_BYTES;
@@ -62,6 +62,7 @@ fn routed(alloc: Global, request: &Request, rules: &Rules) -> Result<Call, HttpR
         Route::Body(route) => by_body(alloc, route, request, rules),
         Route::Poll => by_poll(alloc, request, rules),
         Route::Operator(route) => by_operator(alloc, route, request, rules),
+        Route::OperatorQuery(route) => by_operator_query(alloc, route, request, rules),
     }
 }
 
@@ -128,4 +129,18 @@ fn by_operator(
     }
     let body = object_in(alloc, request.body.as_slice())?;
     operator_call(alloc, route, &body)
+}
+
+fn by_operator_query(
+    alloc: Global,
+    route: OperatorQuery,
+    request: &Request,
+    rules: &Rules,
+) -> Result<Call, HttpRefusal>
+    ensures { Answers HttpRefusal.Memory result (spec.by_operator_query route request.now rules.now) }
+{
+    if shows(&request.bearer, &rules.operator) {
+        return operator_query(alloc, route, request.query.as_str());
+    }
+    Err(HttpRefusal::Auth)
 }

@@ -23,7 +23,11 @@ pub(crate) fn add_call(
     ensures { OnOk result (text.new ≡ text.old ++ call_text number before answer.now) }
 {
     match answer {
-        Answer::Meta | Answer::Confs { .. } | Answer::Delivering { .. } => Ok(()),
+        Answer::Meta
+        | Answer::Confs { .. }
+        | Answer::Standings { .. }
+        | Answer::Figures { .. }
+        | Answer::Delivering { .. } => Ok(()),
         Answer::Made { conf } => add_two(alloc, text, number, "made ", conf.stream.as_str()),
         Answer::Conf { conf } => add_two(alloc, text, number, "conf ", conf.stream.as_str()),
         Answer::Gone => add_line(alloc, text, number, "gone"),

@@ -1,0 +1,8 @@
+use Rattle.std.proofs.Common.{◌≡◌, ◌++◌, flat_map, string_bytes, drop}
+use Rattle.sig_txroutes.specs.Metrics.{owed_line}
+use Rattle.sig_txroutes.proofs.metrics.put_owed_lines.Given as goal
+
+abbrev pub invariant-loop-standing : goal.invariant-loop-standing
+invariant-loop-standing l =
+    string_bytes l.initial.text ++ flat_map owed_line l.standings
+    ≡ string_bytes l.text ++ flat_map owed_line (drop l.standing-index l.standings)
