@@ -1,24 +1,15 @@
 -- How streams that are held in memory change.
-use Rattle.std.proofs.Common.{◌≡◌, ◌≢◌, ◌∙◌, ap, sym, subst, ℕ, ◌+◌, ◌<◌, List, ◌++◌, length, map, filter, take, drop, get_or, get_or-set_other, get_or-set_same, below_more, not, Bool, arith}
+use Rattle.std.proofs.Common.{◌≡◌, ◌≢◌, ◌∙◌, ap, sym, subst, ℕ, ◌+◌, ◌<◌, List, ◌++◌, length, map, take, drop, get_or, get_or-set_other, get_or-set_same, below_more, arith}
 use Rattle.std.proofs.lemmas.List.{map-set, length-map}
 use Rattle.std.proofs.Math.ListN.{set, get_or-map}
 use Rattle.std.proofs.lemmas.List.Edits.{map_over_more}
 use Rattle.sig_subject.specs.declared.subject.Subject.{Subject}
 use Rattle.sig_history.specs.Streams.{Stream, list_removed, with_listed}
 use Rattle.sig_accounts.specs.declared.debt.Debt.{Debt}
-use Rattle.sig_accounts.specs.Owings.{Owing, Balance, owing_in, owing_settled, owing_with}
+use Rattle.sig_accounts.specs.Owings.{Owing, Balance, owing_in, owing_with}
 
 abbrev pub balance_of : Stream → List Debt → ℕ → ℕ → Balance
 balance_of s owed room subjects = record { owing = record { stream = s; owed = owed }; room = room; subjects = subjects }
-
-abbrev owing_of : Stream → List Debt → Owing
-owing_of s owed = record { stream = s; owed = owed }
-
-pub settled_once : (is_settled : ℕ → Bool) (b : Balance) (s : Stream) (owed left : List Debt) (room subjects : ℕ)
-    → balance_of s owed room subjects ≡ b
-    → left ≡ filter (λ (d : Debt). not (is_settled d.number)) owed → owing_of s left ≡ owing_settled is_settled b.owing
-settled_once is_settled b s owed left room subjects is l =
-    ap (owing_of s) l ∙ ap (λ (c : Balance). owing_settled is_settled c.owing) is
 
 pub unlisted_once : (subject : Subject) (b : Balance) (s : Stream) (owed : List Debt) (left : List Subject) (room subjects : ℕ)
     → balance_of s owed room subjects ≡ b → left ≡ list_removed subject s.listed

@@ -1,3 +1,4 @@
+pub mod DebtLemmas
 pub mod TextLemmas
 pub mod BalanceLemmas
 pub mod CountLemmas

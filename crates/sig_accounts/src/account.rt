@@ -1,14 +1,17 @@
 //! A stream as it is held in memory.
 
-ghost use Rattle.std.specs.Prelude.{◌≡◌, ◌↔◌, ◌+◌, ◌<◌, ◌≤◌, ◌^◌, IfOk, IsTrue, OnOk, is_some, nat_eq, true};
+ghost use Rattle.std.specs.Prelude.{◌≡◌, ◌↔◌, ◌+◌, ◌<◌, ◌≤◌, ◌^◌, ◌==◌, All, IfOk, IsTrue, OnOk, is_some, nat_eq, true};
 ghost use Rattle.std.specs.List.{list_any};
 ghost use Rattle.indexmap.specs.IndexSet.{contains};
 ghost use Rattle.sig_subject.specs.Matching.{is_identical};
 ghost use Rattle.sig_history.specs.Facts as facts;
 ghost use Rattle.sig_history.specs.Streams as streams;
+ghost use Rattle.sig_accounts.specs.Debts.{numbered};
+ghost use Rattle.sig_accounts.specs.declared.debt.Debt.{Debt};
 
 use crate::copying::copy_list;
 use crate::debt::{Debt, Notice, Said};
+use crate::debts::Debts;
 use crate::names::client_in;
 use crate::shared_name::SharedName;
 use indexmap::IndexSet;
@@ -31,7 +34,7 @@ pub struct Account {
     listed: Vec<Subject>,
     asked: Option<u64>,
     made: u64,
-    owed: Vec<Debt>,
+    owed: Debts,
 }
 
 impl Drop for Account {
@@ -59,6 +62,7 @@ impl Model for Account {
     ghost use Rattle.std.specs.Prelude.{◌≡◌, ◌-◌, vec_len, vec_capacity};
     ghost use Rattle.sig_history.specs.Streams.{client_in};
     ghost use Rattle.sig_accounts.specs.Owings.{Balance};
+    ghost use Rattle.sig_accounts.specs.Debts.{AreNumbered};
 
     ghost Value = { Balance };
 
@@ -74,13 +78,13 @@ impl Model for Account {
           asked = a.asked;
           made = a.made;
         };
-        owed = a.owed.items;
+        owed = a.owed.debts;
       };
-      room = vec_capacity a.owed - vec_len a.owed;
+      room = a.owed.room;
       subjects = vec_capacity a.listed - vec_len a.listed;
     } };
 
-    ghost invariant = { λ a. a.name ≡ a.conf.stream };
+    ghost invariant = { λ a. (a.name ≡ a.conf.stream) × AreNumbered a.made a.owed.debts };
 }
 
 impl Account {
@@ -102,7 +106,7 @@ impl Account {
             listed: Vec::new(alloc),
             asked: None,
             made: 0,
-            owed: Vec::new(alloc),
+            owed: Debts::new(alloc),
         }
     }
 
@@ -113,7 +117,7 @@ impl Account {
         let name = self.name.share()?;
         let reason = copy_optional(alloc, &self.reason)?;
         let listed = copy_list(alloc, self.listed.as_slice())?;
-        let owed = copy_list(alloc, self.owed.as_slice())?;
+        let owed = self.owed.copy(alloc)?;
         Ok(Account {
             number: self.number,
             conf: self.conf.copy(alloc)?,
@@ -203,6 +207,22 @@ impl Account {
         self.owed.as_slice()
     }
 
+    /// What it owes of numbers from one to another, in order of number. It is looked for by halves.
+    pub fn owed_between(&self, least: u64, most: u64) -> &[Debt]
+        ensures between { result.now ≡ numbered least most self.now.owing.owed }
+        ensures small { All (λ (d : Debt). d.number < 2 ^ 64) self.now.owing.owed }
+    {
+        let _made = self.made;
+        self.owed.numbered(least, most)
+    }
+
+    /// Whether it owes a token of this number. It is looked for by halves.
+    pub fn owes(&self, number: u64) -> bool
+        ensures { result ≡ list_any (λ (d : Debt). d.number == number) self.now.owing.owed }
+    {
+        !self.owed.numbered(number, number).is_empty()
+    }
+
     /// Whether it has this name.
     pub fn is_named(&self, name: &str) -> bool
         ensures { result ≡ streams.is_named name.now self.now.owing.stream }
@@ -263,7 +283,7 @@ impl Account {
         ensures ok { OnOk result (HasRoomFor (facts.is_told fact.now) room_in self.new) }
     {
         if self.is_told(fact) {
-            self.owed.reserve(1)?;
+            self.owed.reserve()?;
         }
         Ok(())
     }
@@ -287,8 +307,7 @@ impl Account {
     {
         self.made += 1;
         let number = self.made;
-        // There is room, so the push keeps the debt.
-        let _ = self.owed.push(Debt { number, time, said });
+        self.owed.push(Debt { number, time, said });
     }
 
     /// Makes a token, where the publication at a place is due on it. It takes no memory.
@@ -362,7 +381,7 @@ impl Account {
     pub fn settle(&mut self, numbers: &IndexSet<u64>)
         ensures { self.new.owing ≡ owing_settled (contains nat_eq numbers.now) self.old.owing }
     {
-        self.owed.retain(|debt| !numbers.contains(&debt.number));
+        self.owed.settle(numbers);
     }
 
     /// Notes when a verification was asked for, and makes its token. It takes no memory.

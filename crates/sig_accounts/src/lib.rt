@@ -3,10 +3,11 @@
 //! It stands on `sig_history` for what streams and facts are. An `Account` is seen as its stream, what it owes in small, and
 //! the room that it holds; `specs/Owings` says what a fact leaves of it, and which tokens its debts are.
 //!
-//! Promised: each change of a stream is that of the history; it keeps its debts in order; a change takes no memory where its
-//! room was reserved, and reserving changes no stream; streams are the same exactly where their tokens say the same. Tokens
-//! that are kept of a publication share their streams' names, which no contract says. Left out: which changes a fact makes of
-//! all streams, which `sig_ledger` says.
+//! Promised: each change of a stream is that of the history; it keeps its debts in order of number, in which they are looked for
+//! by halves; a change takes no memory where its room was reserved, and reserving changes no stream; streams are the same
+//! exactly where their tokens say the same. Tokens that are kept of a publication share their streams' names, and `debts` takes
+//! settled ones off at the front, which no contract says. Left out: which changes a fact makes of all streams, which
+//! `sig_ledger` says.
 #![tactic(auto)]
 
 mod account;
@@ -15,6 +16,7 @@ mod copying;
 mod counted;
 mod counts;
 mod debt;
+mod debts;
 mod kept_token;
 mod names;
 mod overseen;

@@ -1,16 +1,14 @@
 -- The stream of a name, in the books and in what they come to.
-use Rattle.std.proofs.Common.{◌≡◌, ◌∙◌, ap, sym, ℕ, ◌==◌, ◌&&◌, Bool, List, [], filter, length, map, nat_eq, true, false, None, Some, refl}
+use Rattle.std.proofs.Common.{◌≡◌, ◌∙◌, ap, sym, ℕ, ◌&&◌, Bool, List, [], length, map, true, false, None, Some, refl}
 use Rattle.std.specs.Prelude.{Option, is_some, option_map}
-use Rattle.std.specs.List.{list_any}
+use Rattle.std.specs.List.{list_all}
 use Rattle.sig_terms.specs.declared.fact.SettledItem.{SettledItem}
 use Rattle.sig_history.specs.Sound.{are_owed, each_once}
 use Rattle.sig_history.specs.Streams.{stands}
-use Rattle.sig_history.specs.Owed.{names_number, owed_by, owed_count}
-use Rattle.sig_accounts.specs.Owings.{AreNumbers, Owing, made_of, owing_named}
-use Rattle.sig_ledger.specs.Books.{AreKept, Books, sum_in}
-use Rattle.sig_accounts.specs.declared.debt.Debt.{Debt}
-use Rattle.sig_accounts.proofs.SettleLemmas.{found_rises, items_owed, settled_all}
-use Rattle.sig_accounts.proofs.TextLemmas.{filter_alike}
+use Rattle.sig_history.specs.Owed.{owed_by, owed_count}
+use Rattle.sig_accounts.specs.Owings.{Owing, made_of, owing_named}
+use Rattle.sig_ledger.specs.Books.{Books, sum_in}
+use Rattle.sig_accounts.proofs.SettleLemmas.{items_owed, owes}
 use Rattle.sig_accounts.proofs.FoundLemmas.{counted_in, found_in, missing_in, named_stands, none_in, stands_in}
 
 pub found_owed : (b : Books) (name : List ℕ) (o : Owing) → owing_named name b.owings ≡ Some o
@@ -30,24 +28,16 @@ missing_owed b name missing = none_in b.store_id b.published name b.owings missi
 pub counted_of : (b : Books) (name : List ℕ) → owed_count (sum_in b) name ≡ option_map (λ (o : Owing). length o.owed) (owing_named name b.owings)
 counted_of b name = counted_in b.store_id b.published name b.owings
 
--- items may be settled exactly where each is named once and as many debts have their numbers as there are items
-pub settled_apt : (b : Books) (name : List ℕ) (items : List SettledItem) (o : Owing) (numbers : List ℕ) → AreKept b
-    → owing_named name b.owings ≡ Some o → each_once items ≡ true → AreNumbers numbers items
-    → (length (filter (λ (d : Debt). list_any (nat_eq d.number) numbers) o.owed) == length items)
-    ≡ (stands name (sum_in b).parts.streams && are_owed items (owed_by (sum_in b) name) && each_once items)
-settled_apt b name items o numbers kept found once are =
-    ap (λ (l : List Debt). length l == length items)
-    (filter_alike (λ (d : Debt). list_any (nat_eq d.number) numbers) (λ (d : Debt). names_number d.number items) (λ d. are d.number) o.owed)
-    ∙ settled_all items 0 o.owed once (found_rises b.store_id b.published b.created name b.owings o kept.whole found)
-    ∙ sym (items_owed b.store_id b.published o.stream o.owed items)
-    ∙ ap (are_owed items) (sym (found_owed b name o found))
-    ∙ middle (stands name (sum_in b).parts.streams) (are_owed items (owed_by (sum_in b) name)) (each_once items) (found_stands b name o found) once
-  where
-    middle : (x y z : Bool) → x ≡ true → z ≡ true → y ≡ (x && y && z)
-    middle true true true first last = refl
-    middle true false true first last = refl
-    middle true y false first last = cc
-    middle false y z first last = cc
+-- items may be settled exactly where the stream that is found owes each and each is named once
+pub settled_apt : (b : Books) (name : List ℕ) (items : List SettledItem) (o : Owing) (each once : Bool) → owing_named name b.owings ≡ Some o
+    → each ≡ list_all (λ (i : SettledItem). owes i.number o.owed) items → once ≡ each_once items
+    → (each && once) ≡ (stands name (sum_in b).parts.streams && are_owed items (owed_by (sum_in b) name) && each_once items)
+settled_apt b name items o each once found are one =
+    let owed : are_owed items (owed_by (sum_in b) name) ≡ each =
+    ap (are_owed items) (found_owed b name o found) ∙ items_owed b.store_id b.published o.stream o.owed items ∙ sym are in
+    ap (λ x. each && x) one
+    ∙ ap (λ x. x && each_once items) (sym owed)
+    ∙ ap (λ x. x && are_owed items (owed_by (sum_in b) name) && each_once items) (sym (found_stands b name o found))
 
 mapped_some : {X Y : Type 0} (f : X → Y) (o : Option X) → is_some o ≡ is_some (option_map f o)
 mapped_some f None = refl

@@ -1,9 +1,12 @@
 -- What is read of the acknowledgements and refusals of a poll, by number.
-use Rattle.std.proofs.Common.{◌≡◌, ◌∙◌, ap, sym, ℕ, ◌+◌, ◌<◌, ◌^◌, ◌==◌, List, [], ◌∷◌, ◌++◌, length, take, get_or, Bool, true, false, ◌||◌, cond, bytes_eq, Option, None, Some, if◌then◌else◌, refl}
-use Rattle.std.specs.Prelude.{option_map}
+use Rattle.std.proofs.Common.{◌≡◌, ◌∙◌, ap, sym, ℕ, suc, ◌+◌, ◌<◌, ◌≤◌, ◌^◌, ◌==◌, List, [], ◌∷◌, ◌++◌, filter, length, take, get_or, nat_eq, Bool, true, false, ◌||◌, cond, bytes_eq, Option, None, Some, if◌then◌else◌, refl, arith}
+use Rattle.std.specs.Prelude.{All, option_map}
 use Rattle.std.specs.Fmt.{decimal}
-use Rattle.std.specs.List.{list_any}
+use Rattle.std.specs.List.{cons_option, filter_map, list_any}
+use Rattle.std.specs.Map.{keys_of, lookup}
+use Rattle.std.proofs.lemmas.Bool.{leb-false, ne_eqb}
 use Rattle.std.proofs.lemmas.List.{take_more}
+use Rattle.std.proofs.lemmas.List.Elements.{All-filter}
 use Rattle.std.proofs.lemmas.List.Folds.{list_any-append}
 use Rattle.std.proofs.lemmas.Slice.Eq.{bytes_eq-Decides}
 use Rattle.sig_terms.specs.declared.call.PollAsk.{PollAsk}
@@ -12,6 +15,8 @@ use Rattle.sig_terms.specs.declared.fact.SettledItem.{SettledItem}
 use Rattle.sig_history.specs.Owed.{names_number}
 use Rattle.sig_history.specs.Streams.{jti_of}
 use Rattle.sig_calls.specs.Polling.{refused_as, refused_item, settled_by}
+use Rattle.sig_accounts.specs.Debts.{is_from, is_to, numbered}
+use Rattle.sig_accounts.specs.declared.debt.Debt.{Debt}
 use Rattle.sig_token_calls.specs.Verdicts.{is_number, item_of, prefix_of, verdict, with_verdict}
 
 -- a number that was parsed is that of each text that spells one
@@ -121,3 +126,39 @@ number_more n items i d within =
     either ((get_or items i d).number == n) (names_number n (take i items))
     ∙ sym (list_any-append (λ (k : SettledItem). k.number == n) (take i items) (get_or items i d ∷ []))
     ∙ ap (names_number n) (sym (take_more items i d within))
+
+-- ---- numbers of which nothing is said
+
+-- nothing is found at a number that none of the keys is
+unsaid : {X : Type 0} (n : ℕ) (es : List (ℕ × X)) → All (λ k. k ≡ n → ⊥) (keys_of es) → lookup (nat_eq n) es ≡ None
+unsaid n [] apart = refl
+unsaid n (e ∷ es) apart =
+    ap (λ b. cond b (Some e.1) (lookup (nat_eq n) es)) (ne_eqb n e.0 (λ is. apart 0 e.0 (omega arith) (sym is)))
+    ∙ unsaid n es (λ k d h. apart (suc k) d (omega arith))
+
+pub unsaid_below : {X : Type 0} (low n : ℕ) (es : List (ℕ × X)) → All (λ k. low ≤ k) (keys_of es) → n < low → lookup (nat_eq n) es ≡ None
+unsaid_below low n es lowest below = unsaid n es (λ k d h is. let high : low ≤ get_or (keys_of es) k d = lowest k d h in omega arith)
+
+pub unsaid_above : {X : Type 0} (high n : ℕ) (es : List (ℕ × X)) → All (λ k. k ≤ high) (keys_of es) → high < n → lookup (nat_eq n) es ≡ None
+unsaid_above high n es highest above = unsaid n es (λ k d h is. let low : get_or (keys_of es) k d ≤ high = highest k d h in omega arith)
+
+-- what settles nothing may be left out
+passed_over : (p : Debt → Bool) (f : Debt → Option SettledItem) (ds : List Debt) → All (λ (d : Debt). p d ≡ false → f d ≡ None) ds
+    → filter_map f (filter p ds) ≡ filter_map f ds
+passed_over p f [] none = refl
+passed_over p f (d ∷ ds) none =
+    let rest : filter_map f (filter p ds) ≡ filter_map f ds = passed_over p f ds (λ k e h. none (suc k) e (omega arith)) in
+    elim (p d) as (λ b. p d ≡ b → filter_map f (if b then d ∷ filter p ds else filter p ds) ≡ cons_option (f d) (filter_map f ds)) [
+      | true ↦ λ is. ap (cons_option (f d)) rest
+      | false ↦ λ is. rest ∙ sym (ap (λ o. cons_option o (filter_map f ds)) (none 0 d (omega arith) is))
+    ] refl
+
+-- nothing is settled of numbers that are below or above those of which something is said
+pub settled_between : (g : ℕ → Option SettledItem) (low high : ℕ) (ds : List Debt) → All (λ (d : Debt). d.number < 2 ^ 64) ds
+    → ((n : ℕ) → n < 2 ^ 64 → n < low → g n ≡ None) → ((n : ℕ) → n < 2 ^ 64 → high < n → g n ≡ None)
+    → filter_map (λ (d : Debt). g d.number) (numbered low high ds) ≡ filter_map (λ (d : Debt). g d.number) ds
+settled_between g low high ds small below above =
+    let f : Debt → Option SettledItem = λ (d : Debt). g d.number in
+    passed_over (is_from low) f (filter (is_to high) ds)
+    (λ k e h is. below (get_or (filter (is_to high) ds) k e).number (All-filter (is_to high) (λ (d : Debt). d.number < 2 ^ 64) ds small k e h) (leb-false low (get_or (filter (is_to high) ds) k e).number is))
+    ∙ passed_over (is_to high) f ds (λ k e h is. above (get_or ds k e).number (small k e h) (leb-false (get_or ds k e).number high is))

@@ -16,7 +16,7 @@ ghost use Rattle.sig_token_calls.specs.Verdicts.{item_of};
 use crate::offering::{first_offered, is_pushed};
 use crate::reply::Reply;
 use crate::settling::settled_change;
-use crate::verdicts::{read_verdicts, settled_item, token_prefix};
+use crate::verdicts::{highest, lowest, read_verdicts, settled_item, token_prefix};
 use indexmap::IndexMap;
 use sig_json::limits::TOKENS_PER_PAGE;
 use sig_json::{Memory, Text};
@@ -39,7 +39,8 @@ fn push_settled(
     Ok(())
 }
 
-// What a poll settles of what a stream owes, in order of number.
+// What a poll settles of what a stream owes, in order of number. Of what is owed it looks at what stands between the first and the
+// last that the poll names.
 fn settled_debts(
     alloc: Global,
     store_id: [u8; 16],
@@ -49,9 +50,9 @@ fn settled_debts(
     ensures { IfOk result (λ v. v.items ≡ settled_debts ask.now store_id account.now.owing.stream.conf.stream account.now.owing.owed) }
 {
     let stream = account.conf().stream.as_str();
-    let owed = account.owed();
     let prefix = token_prefix(alloc, store_id, stream)?;
     let verdicts = read_verdicts(alloc, prefix.as_str(), ask)?;
+    let owed = account.owed_between(lowest(&verdicts), highest(&verdicts));
     let mut items = Vec::new(alloc);
     for debt in owed {
         push_settled(alloc, &verdicts, debt.number, &mut items)?;

@@ -1,7 +1,6 @@
 //! How the answer to a token that was brought to its receiver is taken (RFC 8935, section 2).
 
-ghost use Rattle.std.specs.Prelude.{◌≡◌, ◌==◌, IfOk, IfSome, Some, length};
-ghost use Rattle.std.specs.List.{list_any};
+ghost use Rattle.std.specs.Prelude.{◌≡◌, IfOk, IfSome, Some, length};
 ghost use Rattle.std.specs.Option.{option_to_list};
 ghost use Rattle.sig_json.specs.Answers.{Answers, result_map};
 ghost use Rattle.sig_calls.specs.Settling as table;
@@ -10,27 +9,14 @@ ghost use Rattle.sig_terms.specs.declared.answer.Answer.TheVariants as answer;
 ghost use Rattle.sig_accounts.specs.Owings.{owing_named};
 ghost use Rattle.sig_ledger.specs.Books.{sum_in};
 ghost use Rattle.sig_ledger.specs.Room.{HasRoom};
-ghost use Rattle.sig_accounts.specs.declared.debt.Debt.{Debt};
 ghost use Rattle.sig_ledger.specs.Steps.{reply_in};
 ghost use Rattle.sig_token_calls.specs.Replies.{items_for};
 
 use crate::reply::Reply;
 use sig_json::{Items, Memory, Text};
-use sig_ledger::{Account, Debt, Ledger, Step};
+use sig_ledger::{Account, Ledger, Step};
 use sig_terms::{Answer, Fact, Outcome, PrepareFault, SettledItem};
 use std::alloc::Global;
-
-// Whether a token of this number is owed.
-fn owes(owed: &[Debt], number: u64) -> bool
-    ensures { result ≡ list_any (λ (d : Debt). d.number == number) owed.now }
-{
-    for debt in owed {
-        if debt.number == number {
-            return true;
-        }
-    }
-    false
-}
 
 // The item of an answer that settles.
 fn outcome_item(
@@ -83,7 +69,7 @@ fn owed_items(
 ) -> Result<Vec<SettledItem>, Memory>
     ensures { IfOk result (λ v. v.items ≡ items_for (Some account.now.owing) number outcome.now) }
 {
-    if !owes(account.owed(), number) {
+    if !account.owes(number) {
         return Ok(Vec::new(alloc));
     }
     let items = outcome_items(alloc, number, outcome)?;

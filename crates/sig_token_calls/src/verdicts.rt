@@ -1,8 +1,8 @@
 //! What the acknowledgements and refusals of a poll say of a stream's tokens, by number: each text is read once.
 
-ghost use Rattle.std.specs.Prelude.{◌≡◌, ◌<◌, ◌^◌, ◌++◌, ◌==◌, [], IfOk, OnOk, Some, ℕ, bytes_eq, nat_eq};
+ghost use Rattle.std.specs.Prelude.{◌≡◌, ◌<◌, ◌≤◌, ◌^◌, ◌++◌, ◌==◌, [], All, IfOk, OnOk, Some, ℕ, bytes_eq, nat_eq};
 ghost use Rattle.std.specs.Fmt.{decimal};
-ghost use Rattle.indexmap.specs.IndexMap.{get};
+ghost use Rattle.indexmap.specs.IndexMap.{get, keys};
 ghost use Rattle.sig_calls.specs.Polling as table;
 ghost use Rattle.sig_calls.specs.Settling.{keeps};
 ghost use Rattle.sig_token_calls.specs.Verdicts.{AreRead, is_number, item_of, prefix_of, with_verdict};
@@ -128,6 +128,20 @@ pub fn read_verdicts(
         note_refusal(alloc, prefix, error, &mut verdicts)?;
     }
     Ok(verdicts)
+}
+
+/// A number that none of those of which something is said is below.
+pub fn lowest(verdicts: &IndexMap<u64, Option<Text>>) -> u64
+    ensures { All (λ n. result ≤ n) (keys verdicts.now) }
+{
+    verdicts.keys().copied().min().unwrap_or(0)
+}
+
+/// A number that none of those of which something is said is above.
+pub fn highest(verdicts: &IndexMap<u64, Option<Text>>) -> u64
+    ensures { All (λ n. n ≤ result) (keys verdicts.now) }
+{
+    verdicts.keys().copied().max().unwrap_or(0)
 }
 
 // Whether a code settles nothing, since it is about the bearer and not about the token.

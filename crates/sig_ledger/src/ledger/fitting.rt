@@ -1,18 +1,18 @@
 //! Which facts may follow.
 
-ghost use Rattle.std.specs.Prelude.{◌≡◌, ◌&&◌, IfOk, IfSome, is_some, length, filter, nat_eq};
-ghost use Rattle.indexmap.specs.IndexSet.{contains};
+ghost use Rattle.std.specs.Prelude.{◌≡◌, ◌&&◌, ◌==◌, IfOk};
+ghost use Rattle.std.specs.List.{list_all, list_any};
 ghost use Rattle.sig_history.specs.Owed.{owed_by};
 ghost use Rattle.sig_history.specs.Sound as sound;
 ghost use Rattle.sig_history.specs.Sound.{are_owed, each_once};
 ghost use Rattle.sig_history.specs.Streams as streams;
-ghost use Rattle.sig_accounts.specs.Owings.{AreNumbers};
 ghost use Rattle.sig_accounts.specs.declared.debt.Debt.{Debt};
+ghost use Rattle.sig_terms.specs.declared.fact.SettledItem.{SettledItem};
 
 use crate::ledger::Ledger;
 use crate::sizes::{is_client_name, is_small};
 use indexmap::IndexSet;
-use sig_accounts::{Debt, client_in, stream_name};
+use sig_accounts::{Account, client_in, stream_name};
 use sig_json::limits::{LAST_NUMBER, STREAMS_PER_CLIENT};
 use sig_json::{Memory, Text};
 use sig_terms::{Fact, SettledItem};
@@ -23,7 +23,7 @@ impl Ledger {
 
     /// Whether a fact may follow: the streams and tokens that it names are there, and what it brings may be brought.
     ///
-    /// The tokens that it would make aren't looked at. It takes time in proportion to the fact and to what one stream owes.
+    /// The tokens that it would make aren't looked at. It takes time in proportion to the fact.
     pub fn is_apt(&self, fact: &Fact) -> Result<bool, Memory>
         ensures { IfOk result (λ b. b ≡ sound.is_apt (sum_in self.now.books) fact.now) }
     {
@@ -76,34 +76,31 @@ impl Ledger {
     {
         match self.account(stream.as_str()) {
             None => Ok(false),
-            Some(account) => match distinct_numbers(self.alloc, items)? {
-                None => Ok(false),
-                // Each debt has its own number.
-                Some(numbers) => Ok(count_owed(account.owed(), &numbers) == items.len()),
-            },
+            Some(account) => {
+                let once = are_distinct(self.alloc, items)?;
+                let owed = owes_each(account, items);
+                Ok(owed && once)
+            }
         }
     }
 }
 
-// The numbers that items name, for one look-up a debt; none where a number is named twice.
-fn distinct_numbers(alloc: Global, items: &[SettledItem]) -> Result<Option<IndexSet<u64>>, Memory>
-    ensures once { IfOk result (λ o. is_some o ≡ each_once items.now) }
-    ensures numbers { IfOk result (λ o. IfSome o (λ s. AreNumbers s.keys items.now)) }
+// Whether items name each number once.
+fn are_distinct(alloc: Global, items: &[SettledItem]) -> Result<bool, Memory>
+    ensures { IfOk result (λ b. b ≡ each_once items.now) }
 {
     let mut numbers = IndexSet::new(alloc);
     for item in items {
         if !numbers.insert(item.number)? {
-            return Ok(None);
+            return Ok(false);
         }
     }
-    Ok(Some(numbers))
+    Ok(true)
 }
 
-// How many debts have one of these numbers.
-fn count_owed(owed: &[Debt], numbers: &IndexSet<u64>) -> usize
-    ensures { result ≡ length (filter (λ (d : Debt). contains nat_eq numbers.now d.number) owed.now) }
+// Whether a stream owes the token of each.
+fn owes_each(account: &Account, items: &[SettledItem]) -> bool
+    ensures { result ≡ list_all (λ (i : SettledItem). list_any (λ (d : Debt). d.number == i.number) account.now.owing.owed) items.now }
 {
-    owed.iter()
-        .filter(|debt| numbers.contains(&debt.number))
-        .count()
+    items.iter().all(|item| account.owes(item.number))
 }

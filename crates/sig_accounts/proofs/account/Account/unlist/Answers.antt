@@ -10,4 +10,4 @@ pub returns : goal.returns
 returns c =
     let left : c.retain.new.self.items ≡ list_removed c.args.subject.now c.self.inside.listed.items =
     filter_same _ (λ (l : Subject). not (is_identical c.args.subject.now l)) _ (λ x b f' k. search rules) _ _ c.retain.ensures.filtered in
-    unlisted_once c.args.subject.now c.args.self.now _ c.self.inside.owed.items c.retain.new.self.items _ _ c.self.view_is left
+    unlisted_once c.args.subject.now c.args.self.now _ c.self.inside.owed.debts c.retain.new.self.items _ _ c.self.view_is left

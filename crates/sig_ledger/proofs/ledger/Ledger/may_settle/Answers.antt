@@ -1,9 +1,7 @@
-use Rattle.std.proofs.Common.{◌≡◌, ◌∙◌, ap, sym, ℕ, ◌&&◌, List, filter, length, nat_eq, true, rules}
-use Rattle.indexmap.specs.IndexSet.{contains}
+use Rattle.std.proofs.Common.{◌∙◌, ap, sym, ℕ, ◌&&◌, List}
 use Rattle.sig_history.specs.Owed.{owed_by}
 use Rattle.sig_history.specs.Sound.{are_owed, each_once}
-use Rattle.sig_accounts.specs.declared.debt.Debt.{Debt}
-use Rattle.sig_accounts.specs.Owings.{AreNumbers, owing_named}
+use Rattle.sig_accounts.specs.Owings.{owing_named}
 use Rattle.sig_ledger.specs.Books.{sum_in}
 use Rattle.sig_ledger.proofs.FoundLemmas.{missing_stands, settled_apt}
 use Rattle.sig_ledger.proofs.ledger.Ledger.may_settle.Goals as goal
@@ -14,11 +12,16 @@ returns-in-None c =
     (missing_stands c.args.self.now.books c.args.stream.now
     (sym (c.in-None.ensures.found ∙ ap (λ (n : List ℕ). owing_named n c.args.self.now.books.owings) c.as_str.ensures.same))))
 
-pub returns-in-Some-2 : goal.returns-in-Some-2
-returns-in-Some-2 c =
-    let once : each_once c.args.items.now ≡ true = search (rules, c.in_ok-distinct_numbers-in-Some.ensures.once, c.in-Some-2.is) in
-    let are : AreNumbers c.in-Some-2.numbers.keys c.args.items.now = search (rules, c.in_ok-distinct_numbers-in-Some.ensures.numbers, c.in-Some-2.is) in
-    ap (λ n. nat_eq n (length c.args.items.now))
-    (c.count_owed.ensures ∙ ap (λ (ds : List Debt). length (filter (λ (d : Debt). contains nat_eq c.in-Some-2.numbers d.number) ds)) c.owed.ensures)
-    ∙ settled_apt c.args.self.now.books c.args.stream.now c.args.items.now c.in-Some.account.now.owing c.in-Some-2.numbers.keys c.in-Some.ensures.kept
-    (sym (c.in-Some.ensures.found ∙ ap (λ (n : List ℕ). owing_named n c.args.self.now.books.owings) c.as_str.ensures.same)) once are
+pub returns-then-owed : goal.returns-then-owed
+returns-then-owed c =
+    sym (ap (λ b. b && c.in_ok-once-in-Some.once) c.if-owed.true)
+    ∙ settled_apt c.args.self.now.books c.args.stream.now c.args.items.now c.in-Some.account.now.owing c.owes_each-owed.result c.in_ok-once-in-Some.once
+    (sym (c.in-Some.ensures.found ∙ ap (λ (n : List ℕ). owing_named n c.args.self.now.books.owings) c.as_str.ensures.same))
+    c.owes_each-owed.ensures c.in_ok-once-in-Some.ensures
+
+pub returns-else-owed : goal.returns-else-owed
+returns-else-owed c =
+    c.if-owed.false ∙ sym (ap (λ b. b && c.in_ok-once-in-Some.once) c.if-owed.false)
+    ∙ settled_apt c.args.self.now.books c.args.stream.now c.args.items.now c.in-Some.account.now.owing c.owes_each-owed.result c.in_ok-once-in-Some.once
+    (sym (c.in-Some.ensures.found ∙ ap (λ (n : List ℕ). owing_named n c.args.self.now.books.owings) c.as_str.ensures.same))
+    c.owes_each-owed.ensures c.in_ok-once-in-Some.ensures

@@ -4,7 +4,7 @@ use Rattle.indexmap.specs.IndexSet.{contains}
 use Rattle.sig_history.specs.Owed.{names_number}
 use Rattle.sig_terms.specs.declared.fact.SettledItem.{SettledItem}
 use Rattle.sig_ledger.proofs.OnceLemmas.{named_step, new_start, new_step}
-use Rattle.sig_ledger.proofs.ledger.fitting.distinct_numbers.Goals as goal
+use Rattle.sig_ledger.proofs.ledger.fitting.are_distinct.Goals as goal
 
 pub loop-item-init : goal.loop-item-init
 loop-item-init c = record {

@@ -3,7 +3,7 @@ use Rattle.indexmap.specs.IndexSet.{contains}
 use Rattle.sig_history.specs.Owed.{names_number}
 use Rattle.sig_history.specs.Sound.{each_once}
 use Rattle.sig_ledger.proofs.OnceLemmas.{are_new}
-use Rattle.sig_ledger.proofs.ledger.fitting.distinct_numbers.Given as goal
+use Rattle.sig_ledger.proofs.ledger.fitting.are_distinct.Given as goal
 
 abbrev pub invariant-loop-item : goal.invariant-loop-item
 invariant-loop-item l = record {
