@@ -12,6 +12,7 @@ use Rattle.sig_system.specs.declared.tcp_link.TheConstants.{REST_MILLISECONDS, R
 use Rattle.sig_system.specs.declared.timing.TheConstants.{LOOK_MILLISECONDS}
 use Rattle.sig_system.specs.declared.tcp_door.TheConstants.{ACCEPT_MILLISECONDS, LACK_MILLISECONDS, LACKING_ACCEPTS}
 use Rattle.sig_system.specs.declared.tcp_side.TheConstants.{DIAL_SECONDS, DIAL_ADDRESSES}
+use Rattle.sig_stream.specs.declared.limits.TheConstants.{AUTHORIZATION_BYTES, ENDPOINT_URL_BYTES}
 use Rattle.sig_history.specs.declared.limits.TheConstants.{SETTING_BYTES, SETTING_ITEMS}
 use Rattle.sig_calls.specs.declared.limits.TheConstants.{WANT_BYTES, WANT_ITEMS}
 use Rattle.sig_journal.specs.declared.layout.TheConstants.{GATE_OPEN, MAGIC, VERSION, HEADER_BYTES, STORE_ID_BYTES, RECORD_HEAD_BYTES}
@@ -69,6 +70,8 @@ pub record StreamFigures : Type 0 where
   pub name : CLIENT_NAME_BYTES ≡ 32
   pub page : TOKENS_PER_PAGE ≡ 32
   pub interval : INTERVAL_SECONDS ≡ 86400
+  pub url : ENDPOINT_URL_BYTES ≡ 2048
+  pub authorization : AUTHORIZATION_BYTES ≡ 8192
   pub want_bytes : WANT_BYTES ≡ 655360
   pub want_items : WANT_ITEMS ≡ 655360
   pub setting_bytes : SETTING_BYTES ≡ 2 ^ 28

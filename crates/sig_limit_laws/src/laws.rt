@@ -27,8 +27,9 @@ pub fn tokens_have_these_figures()
 {}
 
 /// A client has at most 16 streams and a name of at most 32 characters, a page at most 32 tokens, and two verifications of a
-/// stream may have to be 86,400 seconds apart at most. What a request wants of a stream has at most 655,360 bytes and as many
-/// items; what a fact sets of one has at most 2^28 of each.
+/// stream may have to be 86,400 seconds apart at most. The URL of a push endpoint that is wanted has at most 2,048 bytes, and
+/// its authorization 8,192. What a request wants of a stream has at most 655,360 bytes and as many items; what a fact sets of
+/// one has at most 2^28 of each.
 pub fn streams_have_these_figures()
     ensures { StreamFigures }
 {}
