@@ -485,11 +485,20 @@ def sources_of(crate):
     return sorted(str(it) for folder in folders for it in folder.rglob("*") if it.is_file())
 
 
+def libraries_for(names, room):
+    """For named crates those that `rt lib` left in the checkout, where all that they need is there; else those that the gate keeps."""
+    if names or not hasattr(rt, "Kept"):
+        left = LeftLibraries()
+        if not hasattr(rt, "Kept") or left.there.issuperset(names):
+            return left
+    return KeptLibraries(room)
+
+
 def try_all(names, anew, is_control, room):
     # (its first call sets a signal's handler, which only the main thread may)
     rt.rtlib.guarded()
     rt.Crate.allowed, rt.Crate.cuts_libraries = rt.handles_of("."), True
-    libraries = KeptLibraries(room) if hasattr(rt, "Kept") else LeftLibraries()
+    libraries = libraries_for(names, room)
     wanted = [it for it in libraries.crates if (not names or it.name in names) and edits_of(it)]
     # (by this name the kit's lanes give a task one processor)
     tasks = {
