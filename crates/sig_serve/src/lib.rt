@@ -19,5 +19,6 @@ mod settings;
 mod watches;
 
 pub use serving::serve;
+pub use settings::settings_from;
 pub use sig_logs::Differ;
 pub use sig_opening::ServeEnd;

@@ -1,4 +1,6 @@
 pub mod AskingLemmas
+pub mod CourierAskingLemmas
+pub mod CourierEndLemmas
 pub mod EndLemmas
 pub mod FetchEndLemmas
 pub mod LastLineLemmas

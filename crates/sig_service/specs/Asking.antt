@@ -1,4 +1,4 @@
--- The words of `init`, `serve`, `receive` and `fetch`.
+-- The words of `init`, `serve`, `receive`, `fetch` and `courier`.
 use Rattle.std.specs.Prelude.{ℕ, List, [], ◌∷◌, ◌&&◌, Option, None, Some, option_and_then, option_map, bytes_eq, codes, if◌then◌else◌, nat_le, nat_lt, slice_index}
 use Rattle.std.specs.Str.{all_ascii_digits}
 use Rattle.std.specs.Str.Parse.{digits_value}
@@ -93,3 +93,26 @@ server_of (name ∷ words) = option_and_then (λ s. option_map (λ o. record { s
 abbrev pub fetch_of : List (List ℕ) → Option StoreAsked
 fetch_of [] = None
 fetch_of (name ∷ words) = if bytes_eq name (codes "fetch") then store_words words else None
+
+-- ---- `courier`
+
+-- what it is asked for: the settings and the store, by their names
+pub record CourierAsked : Type 0 where
+  pub settings : List ℕ
+  pub store : List ℕ
+
+-- `<settings> <store>`, with names that aren't empty
+abbrev pub courier_ask_of : List ℕ → List ℕ → Option CourierAsked
+courier_ask_of settings store = if is_filled settings && is_filled store then Some (record { settings = settings; store = store }) else None
+
+-- the words after the name
+abbrev pub courier_words : List (List ℕ) → Option CourierAsked
+courier_words [] = None
+courier_words (settings ∷ []) = None
+courier_words (settings ∷ store ∷ []) = courier_ask_of settings store
+courier_words (settings ∷ store ∷ more ∷ words) = None
+
+-- what words ask `courier` for; none where they don't
+abbrev pub courier_of : List (List ℕ) → Option CourierAsked
+courier_of [] = None
+courier_of (name ∷ words) = if bytes_eq name (codes "courier") then courier_words words else None

@@ -4,3 +4,4 @@ pub mod InitRuns
 pub mod Outside
 pub mod ServerRuns
 pub mod FetchRuns
+pub mod CourierRuns

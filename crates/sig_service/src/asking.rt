@@ -1,4 +1,4 @@
-//! The words of `init`, `serve`, `receive` and `fetch`.
+//! The words of `init`, `serve`, `receive`, `fetch` and `courier`.
 
 ghost use Rattle.std.specs.Prelude.{◌≡◌, map, option_and_then, option_map, string_bytes};
 ghost use Rattle.sig_service.specs.Asking as spec;
@@ -151,6 +151,47 @@ fn store_ask_of<'a>(settings: &'a str, store: &'a str, count: &str) -> Option<St
         store,
         count,
     })
+}
+
+/// What `courier` is asked for.
+#[derive(Clone, Copy)]
+pub struct CourierAsk<'a> {
+    /// The name of the settings.
+    pub settings: &'a str,
+    /// The name of the store, by which its two files are named.
+    pub store: &'a str,
+}
+
+/// What `courier` is asked for by these words; none exactly where they aren't `courier` and the names of settings and of a
+/// store, neither of which is empty.
+pub fn courier_of(words: &[String]) -> Option<CourierAsk<'_>>
+    ensures { option_map (λ ask. record { settings = ask.settings.now; store = ask.store.now }) result ≡ spec.courier_of (map (λ word. string_bytes word) words.now) }
+{
+    let (name, words) = words.split_first()?;
+    if name.as_str() != "courier" {
+        return None;
+    }
+    courier_words(words)
+}
+
+// What `courier` is asked for by the words after its name.
+#[tactic(auto, using(crate::proofs::CourierAskingLemmas::courier_two))]
+fn courier_words(words: &[String]) -> Option<CourierAsk<'_>>
+    ensures { option_map (λ ask. record { settings = ask.settings.now; store = ask.store.now }) result ≡ spec.courier_words (map (λ word. string_bytes word) words.now) }
+{
+    if words.len() != 2 {
+        return None;
+    }
+    courier_ask_of(words[0].as_str(), words[1].as_str())
+}
+
+fn courier_ask_of<'a>(settings: &'a str, store: &'a str) -> Option<CourierAsk<'a>>
+    ensures { option_map (λ ask. record { settings = ask.settings.now; store = ask.store.now }) result ≡ spec.courier_ask_of settings.now store.now }
+{
+    if settings.is_empty() || store.is_empty() {
+        return None;
+    }
+    Some(CourierAsk { settings, store })
 }
 
 // A number from 1 to 2^62, in decimal without leading zeros.

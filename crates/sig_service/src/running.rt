@@ -11,12 +11,14 @@ ghost use Rattle.sig_program.specs.Command.{command_of};
 ghost use Rattle.sig_program.specs.declared.command.Command.{Command};
 ghost use Rattle.sig_program.specs.Ends.{RanWith, ending_at, status_of, telling_of};
 ghost use Rattle.sig_service.specs.Asking as spec;
+ghost use Rattle.sig_service.specs.CourierRuns.{CourierRan};
 ghost use Rattle.sig_service.specs.InitRuns.{InitRan};
 ghost use Rattle.sig_service.specs.FetchRuns.{EndsCalm, FetchRan, IsFetchable};
 ghost use Rattle.sig_service.specs.Outside.{MeetsNoFault, outside_state};
 ghost use Rattle.sig_service.specs.ServerRuns.{IsServable, ServerRan};
 
-use crate::asking::{fetch_of, init_of, server_of};
+use crate::asking::{courier_of, fetch_of, init_of, server_of};
+use crate::courier_run::run_courier;
 use crate::fetch_run::run_fetch;
 use crate::init_run::run_init;
 use crate::server_run::run_server;
@@ -31,7 +33,9 @@ use std::thread::Threads;
 /// For those words it is 0 where as many watches ran as were asked for or the door is shut, 3 where the settings couldn't be
 /// read, 10 where they are refused, 5 where a file of the store couldn't be opened or its disk failed, 6 where the store isn't
 /// there or is damaged, 7 where the door couldn't be opened or it failed, 8 where two kept values differ, 9 out of memory, and
-/// 4 where the output stopped at the last line. For all other words it is the one of `run_plain`.
+/// 4 where the output stopped at the last line. For those of `courier` it is 0 where the input was read to its end and all is
+/// written, 3 where the input or the settings failed, 4 where the output stopped, 5, 6, 9 and 10 as of a server, and 11 where
+/// the journal would end past 2^62 or so many bytes of the input were read. For all other words it is the one of `run_plain`.
 pub fn run<R: Threads + Wait + Sync, X: Outside, I: Source, O: Sink>(
     alloc: Global,
     rt: &R,
@@ -48,20 +52,24 @@ pub fn run<R: Threads + Wait + Sync, X: Outside, I: Source, O: Sink>(
         (outside_state X.settings_of X.held X.there X.doors X.doors_back X.sides X.sides_back X.settings_faults X.store_faults X.network_faults outside.old)
         (outside_state X.settings_of X.held X.there X.doors X.doors_back X.sides X.sides_back X.settings_faults X.store_faults X.network_faults outside.new)
         (output_state (O.written output.old) (O.faults output.old) (O.stalls output.old)) (output_state (O.written output.new) (O.faults output.new) (O.stalls output.new)) result) }
+    ensures couriers { IfSome (spec.courier_of (map (λ word. string_bytes word) words.now)) (λ ask. CourierRan ask
+        (outside_state X.settings_of X.held X.there X.doors X.doors_back X.sides X.sides_back X.settings_faults X.store_faults X.network_faults outside.old)
+        (outside_state X.settings_of X.held X.there X.doors X.doors_back X.sides X.sides_back X.settings_faults X.store_faults X.network_faults outside.new)
+        (record { left = I.left input.old; faults = I.faults input.old }) (record { left = I.left input.new; faults = I.faults input.new }) (output_state (O.written output.old) (O.faults output.old) (O.stalls output.old)) (output_state (O.written output.new) (O.faults output.new) (O.stalls output.new)) result) }
     ensures init { IfSome (spec.init_of (map (λ word. string_bytes word) words.now)) (λ ask. InitRan ask
         (X.held outside.old) (X.held outside.new) (X.store_faults outside.old) (X.store_faults outside.new)
         (output_state (O.written output.old) (O.faults output.old) (O.stalls output.old)) (output_state (O.written output.new) (O.faults output.new) (O.stalls output.new)) result) }
-    ensures plain { spec.server_of (map (λ word. string_bytes word) words.now) ≡ None → spec.fetch_of (map (λ word. string_bytes word) words.now) ≡ None → spec.init_of (map (λ word. string_bytes word) words.now) ≡ None
+    ensures plain { spec.server_of (map (λ word. string_bytes word) words.now) ≡ None → spec.courier_of (map (λ word. string_bytes word) words.now) ≡ None → spec.fetch_of (map (λ word. string_bytes word) words.now) ≡ None → spec.init_of (map (λ word. string_bytes word) words.now) ≡ None
         → RanWith (map (λ word. string_bytes word) words.now)
         (moment (I.left input.old) (I.faults input.old) (O.written output.old) (O.faults output.old) (O.stalls output.old))
         (moment (I.left input.new) (I.faults input.new) (O.written output.new) (O.faults output.new) (O.stalls output.new)) result }
 
     // The status 1 comes only where the words are no command.
     ensures usage { result ≡ 1 → (command_of (map (λ word. string_bytes word) words.now) ≡ None)
-        × (spec.init_of (map (λ word. string_bytes word) words.now) ≡ None) × (spec.server_of (map (λ word. string_bytes word) words.now) ≡ None) × (spec.fetch_of (map (λ word. string_bytes word) words.now) ≡ None) }
+        × (spec.init_of (map (λ word. string_bytes word) words.now) ≡ None) × (spec.server_of (map (λ word. string_bytes word) words.now) ≡ None) × (spec.fetch_of (map (λ word. string_bytes word) words.now) ≡ None) × (spec.courier_of (map (λ word. string_bytes word) words.now) ≡ None) }
 
     // The input is not even asked where no command reads it.
-    ensures unasked { command_of (map (λ word. string_bytes word) words.now) ≡ None → input.new ≡ input.old }
+    ensures unasked { command_of (map (λ word. string_bytes word) words.now) ≡ None → spec.courier_of (map (λ word. string_bytes word) words.now) ≡ None → input.new ≡ input.old }
 
     // Without faults, settings that are taken and a store that stands for a state are served to the end, or until something
     // differs, or until memory runs out.
@@ -98,18 +106,21 @@ pub fn run<R: Threads + Wait + Sync, X: Outside, I: Source, O: Sink>(
         → (Rose (I.faults input.old) (I.faults input.new) → ⊥) → (Rose (O.faults output.old) (O.faults output.new) → ⊥)
         → (Rose (O.stalls output.old) (O.stalls output.new) → ⊥) → (result ≡ 0) ⊎ (result ≡ 9) }
 
-    // Of the outside, `init` touches no more than the files of its store, and a command that reads the input nothing.
-    ensures untouched { spec.server_of (map (λ word. string_bytes word) words.now) ≡ None → spec.fetch_of (map (λ word. string_bytes word) words.now) ≡ None → spec.init_of (map (λ word. string_bytes word) words.now) ≡ None → outside.new ≡ outside.old }
-    ensures settings { spec.server_of (map (λ word. string_bytes word) words.now) ≡ None → spec.fetch_of (map (λ word. string_bytes word) words.now) ≡ None → (X.settings_of outside.new ≡ X.settings_of outside.old) × (X.settings_faults outside.new ≡ X.settings_faults outside.old) }
+    // Of the outside, `init` touches no more than the files of its store, and `fold` and `replay` nothing.
+    ensures untouched { spec.server_of (map (λ word. string_bytes word) words.now) ≡ None → spec.courier_of (map (λ word. string_bytes word) words.now) ≡ None → spec.fetch_of (map (λ word. string_bytes word) words.now) ≡ None → spec.init_of (map (λ word. string_bytes word) words.now) ≡ None → outside.new ≡ outside.old }
+    ensures settings { spec.server_of (map (λ word. string_bytes word) words.now) ≡ None → spec.courier_of (map (λ word. string_bytes word) words.now) ≡ None → spec.fetch_of (map (λ word. string_bytes word) words.now) ≡ None → (X.settings_of outside.new ≡ X.settings_of outside.old) × (X.settings_faults outside.new ≡ X.settings_faults outside.old) }
     ensures doors { spec.server_of (map (λ word. string_bytes word) words.now) ≡ None
         → (X.doors outside.new ≡ X.doors outside.old) × (X.doors_out outside.new ≡ X.doors_out outside.old) × (X.doors_back outside.new ≡ X.doors_back outside.old) }
-    ensures sides { spec.fetch_of (map (λ word. string_bytes word) words.now) ≡ None
+    ensures sides { spec.fetch_of (map (λ word. string_bytes word) words.now) ≡ None → spec.courier_of (map (λ word. string_bytes word) words.now) ≡ None
         → (X.sides outside.new ≡ X.sides outside.old) × (X.sides_out outside.new ≡ X.sides_out outside.old) × (X.sides_back outside.new ≡ X.sides_back outside.old) }
-    ensures network { spec.server_of (map (λ word. string_bytes word) words.now) ≡ None → spec.fetch_of (map (λ word. string_bytes word) words.now) ≡ None → X.network_faults outside.new ≡ X.network_faults outside.old }
+    ensures network { spec.server_of (map (λ word. string_bytes word) words.now) ≡ None → spec.courier_of (map (λ word. string_bytes word) words.now) ≡ None → spec.fetch_of (map (λ word. string_bytes word) words.now) ≡ None → X.network_faults outside.new ≡ X.network_faults outside.old }
 {
     match server_of(words) {
         Some(ask) => run_server(alloc, rt, ask.server, ask.over, output, outside),
-        None => run_plain(alloc, words, input, output, outside),
+        None => match courier_of(words) {
+            Some(over) => run_courier(alloc, rt, over, input, output, outside),
+            None => run_plain(alloc, words, input, output, outside),
+        },
     }
 }
 
@@ -119,8 +130,8 @@ pub fn run<R: Threads + Wait + Sync, X: Outside, I: Source, O: Sink>(
 /// memory, 12 where a file isn't empty, and 4 where the output stopped at the last line. For those of `fetch` it is 0 where as
 /// many rounds were made as were asked for or the last page lists no token, 3, 10, 5 and 6 as of a server, 7 where a dial or a
 /// link failed, 9 out of memory, 11 where the journal would end past 2^62, 13 where the transmitter gave no page, and 4 where
-/// the output stopped. For all other words it is the one of `sig_program::run`, to which `serve` and `receive` are no
-/// commands, and nothing outside is touched.
+/// the output stopped. For all other words it is the one of `sig_program::run`, to which `serve`, `receive` and
+/// `courier` are no commands, and nothing outside is touched.
 pub fn run_plain<X: Outside, I: Source, O: Sink>(
     alloc: Global,
     words: &[String],
