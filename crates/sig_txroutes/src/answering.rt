@@ -20,8 +20,9 @@ use std::alloc::Global;
 /// The response to an answer, which has one status: 200 for what was read, changed, published or added, 201 for a new
 /// stream, 202 for a round of pushes that may begin, 204 where nothing is told, 404 where there is no such stream, 409
 /// where it can't be so, 429 where it is too early, and 400 at `long` where a token would be too long. It leaves the link
-/// open. A page of tokens is 200, signed by the key of the rules. Figures are 200, in Prometheus' text format. No cache may keep it but what the transmitter offers. What a
-/// round of pushes is handed or settles is told to no request, and would be 500. Out of memory is the only error.
+/// open. A page of tokens is 200, signed by the key of the rules. Figures are 200, in Prometheus' text format. No cache may
+/// keep it but what the transmitter offers. What a round of pushes is handed or settles is told to no request, and would be
+/// 500. Out of memory is the only error.
 pub fn response_of(alloc: Global, answer: &Answer, rules: &Rules) -> Result<Response, Memory>
     ensures { IfOk result (λ response. response ≡ spec.reply answer.now rules.now) }
 {
