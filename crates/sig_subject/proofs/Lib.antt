@@ -9,3 +9,4 @@ pub mod WrittenBack
 pub mod ProperRead
 pub mod Parts
 pub mod Covering
+pub mod Equal

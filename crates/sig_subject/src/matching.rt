@@ -9,7 +9,7 @@ use sig_json::Same;
 pub fn identical(a: &Subject, b: &Subject) -> bool
     ensures { result ≡ is_identical a.now b.now }
 {
-    a.same(b)
+    a == b
 }
 
 /// Whether an event about one is about the other (OpenID Shared Signals Framework 1.0, section 4): two simple subjects

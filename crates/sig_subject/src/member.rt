@@ -5,7 +5,7 @@ use sig_json::{Copied, Memory, Same, Text};
 use std::alloc::Global;
 
 /// A named part of a complex subject (OpenID Shared Signals Framework 1.0, section 4).
-#[derive(Drop)]
+#[derive(PartialEq, Eq, Hash, Drop)]
 pub struct Member {
     /// `user`, `device`, `session`, `application`, `tenant`, `org_unit`, `group`, or a name that is kept alike.
     pub name: Text,

@@ -5,7 +5,7 @@ use std::alloc::Global;
 
 /// A subject identifier of one format without parts (RFC 9493, section 3.2; OpenID Shared Signals Framework 1.0,
 /// section 4). No text of a known format is empty.
-#[derive(PartialEq, Eq)]
+#[derive(PartialEq, Eq, Hash)]
 pub enum Plain {
     /// `account`: a URI that begins with `acct:` (RFC 9493, section 3.2.1).
     Account { uri: Text },

@@ -5,6 +5,7 @@ use sig_json::{Copied, Items, Memory, Same, copy_items};
 use std::alloc::Global;
 
 /// A subject identifier that is no complex one.
+#[derive(PartialEq, Eq, Hash)]
 pub enum Simple {
     /// One identifier.
     Plain(Plain),

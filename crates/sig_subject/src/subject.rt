@@ -5,6 +5,7 @@ use sig_json::{Copied, Items, Memory, Same, copy_items};
 use std::alloc::Global;
 
 /// Whom an event is about (RFC 9493; OpenID Shared Signals Framework 1.0, section 4).
+#[derive(PartialEq, Eq, Hash)]
 pub enum Subject {
     /// One identifier, or aliases.
     Simple(Simple),
