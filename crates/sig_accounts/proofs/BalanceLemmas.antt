@@ -3,21 +3,7 @@ use Rattle.std.proofs.Common.{◌≡◌, ◌≢◌, ◌∙◌, ap, sym, subst, �
 use Rattle.std.proofs.lemmas.List.{map-set, length-map}
 use Rattle.std.proofs.Math.ListN.{set, get_or-map}
 use Rattle.std.proofs.lemmas.List.Edits.{map_over_more}
-use Rattle.sig_subject.specs.declared.subject.Subject.{Subject}
-use Rattle.sig_history.specs.Streams.{Stream, list_removed, with_listed}
-use Rattle.sig_accounts.specs.declared.debt.Debt.{Debt}
-use Rattle.sig_accounts.specs.Owings.{Owing, Balance, owing_in, owing_with}
-
-abbrev pub balance_of : Stream → List Debt → ℕ → ℕ → Balance
-balance_of s owed room subjects = record { owing = record { stream = s; owed = owed }; room = room; subjects = subjects }
-
-pub unlisted_once : (subject : Subject) (b : Balance) (s : Stream) (owed : List Debt) (left : List Subject) (room subjects : ℕ)
-    → balance_of s owed room subjects ≡ b → left ≡ list_removed subject s.listed
-    → owing_with (with_listed left s) (record { stream = s; owed = owed })
-    ≡ owing_with (with_listed (list_removed subject b.owing.stream.listed) b.owing.stream) b.owing
-unlisted_once subject b s owed left room subjects is l =
-    ap (λ (ls : List Subject). owing_with (with_listed ls s) (record { stream = s; owed = owed })) l
-    ∙ ap (λ (c : Balance). owing_with (with_listed (list_removed subject c.owing.stream.listed) c.owing.stream) c.owing) is
+use Rattle.sig_accounts.specs.Owings.{Owing, Balance, owing_in}
 
 -- a loop that changes what each stream owes
 pub over_more : (f : Owing → Owing) (old now : List Balance) (i : ℕ) (r new : Balance) → i < length old

@@ -10,3 +10,7 @@ pub mod StandingLemmas
 pub mod ChangeLemmas
 pub mod SettleLemmas
 pub mod SameLemmas
+pub mod ItemLemmas
+pub mod ListingLemmas
+pub mod ClosingLemmas
+pub mod SubjectLemmas

@@ -1,3 +1,4 @@
 pub mod Debts
+pub mod Listing
 pub mod Owings
 pub mod Places

@@ -4,21 +4,22 @@ ghost use Rattle.std.specs.Prelude.{◌≡◌, ◌↔◌, ◌+◌, ◌<◌, ◌�
 ghost use Rattle.std.specs.List.{list_any};
 ghost use Rattle.indexmap.specs.IndexSet.{contains};
 ghost use Rattle.sig_subject.specs.Matching.{is_identical};
+ghost use Rattle.sig_terms.specs.Fitting.{fits};
 ghost use Rattle.sig_history.specs.Facts as facts;
 ghost use Rattle.sig_history.specs.Streams as streams;
 ghost use Rattle.sig_accounts.specs.Debts.{numbered};
 ghost use Rattle.sig_accounts.specs.declared.debt.Debt.{Debt};
 
-use crate::copying::copy_list;
 use crate::debt::{Debt, Notice, Said};
 use crate::debts::Debts;
 use crate::names::client_in;
 use crate::shared_name::SharedName;
+use crate::subjects::Subjects;
 use indexmap::IndexSet;
 use sig_event::{News, Status};
-use sig_json::{Items, Memory, Same, Text, copy_optional, same_slices};
-use sig_subject::{Subject, identical};
-use sig_terms::{Delivery, Fact, StreamConf, delivers, fits_listed};
+use sig_json::{Items, Memory, Same, Text, copy_optional};
+use sig_subject::Subject;
+use sig_terms::{Defaults, Delivery, Fact, StreamConf, delivers};
 use std::alloc::Global;
 use std::marker::Model;
 
@@ -31,7 +32,7 @@ pub struct Account {
     name: SharedName,
     status: Status,
     reason: Option<Text>,
-    listed: Vec<Subject>,
+    listed: Subjects,
     asked: Option<u64>,
     made: u64,
     owed: Debts,
@@ -59,7 +60,7 @@ impl Drop for Account {
 }
 
 impl Model for Account {
-    ghost use Rattle.std.specs.Prelude.{◌≡◌, ◌-◌, vec_len, vec_capacity};
+    ghost use Rattle.std.specs.Prelude.{◌≡◌};
     ghost use Rattle.sig_history.specs.Streams.{client_in};
     ghost use Rattle.sig_accounts.specs.Owings.{Balance};
     ghost use Rattle.sig_accounts.specs.Debts.{AreNumbered};
@@ -74,14 +75,14 @@ impl Model for Account {
           conf = a.conf;
           status = a.status;
           reason = a.reason;
-          listed = a.listed.items;
+          listed = a.listed.listed;
           asked = a.asked;
           made = a.made;
         };
         owed = a.owed.debts;
       };
       room = a.owed.room;
-      subjects = vec_capacity a.listed - vec_len a.listed;
+      subjects = a.listed.room;
     } };
 
     ghost invariant = { λ a. (a.name ≡ a.conf.stream) × AreNumbered a.made a.owed.debts };
@@ -103,7 +104,7 @@ impl Account {
             name,
             status: Status::Enabled,
             reason: None,
-            listed: Vec::new(alloc),
+            listed: Subjects::new(alloc),
             asked: None,
             made: 0,
             owed: Debts::new(alloc),
@@ -116,7 +117,7 @@ impl Account {
     {
         let name = self.name.share()?;
         let reason = copy_optional(alloc, &self.reason)?;
-        let listed = copy_list(alloc, self.listed.as_slice())?;
+        let listed = self.listed.copy(alloc)?;
         let owed = self.owed.copy(alloc)?;
         Ok(Account {
             number: self.number,
@@ -139,7 +140,7 @@ impl Account {
             && self.conf.same(&other.conf)
             && self.status.same(&other.status)
             && self.reason.same(&other.reason)
-            && same_slices(self.listed.as_slice(), other.listed.as_slice())
+            && self.listed.lists_same(&other.listed)
             && self.asked.same(&other.asked)
             && self.made == other.made
     }
@@ -177,13 +178,6 @@ impl Account {
         ensures { result.now ≡ self.now.owing.stream.reason }
     {
         &self.reason
-    }
-
-    /// The subjects on its list, in the order in which they were put there.
-    pub fn listed(&self) -> &[Subject]
-        ensures { result.now ≡ self.now.owing.stream.listed }
-    {
-        self.listed.as_slice()
     }
 
     /// When a verification was last asked for, in seconds since 1970.
@@ -246,7 +240,17 @@ impl Account {
     {
         !is_disabled(self.status)
             && delivers(&self.conf, news.event.uri())
-            && fits_listed(self.conf.defaults, self.listed.as_slice(), &news.subject)
+            && self.fits(&news.subject)
+    }
+
+    // Whether a subject is one of its own, by its default subjects and its list.
+    fn fits(&self, subject: &Subject) -> bool
+        ensures { result ≡ fits self.now.owing.stream.conf.defaults self.now.owing.stream.listed subject.now }
+    {
+        match self.conf.defaults {
+            Defaults::All => !self.listed.has(subject),
+            Defaults::None => self.listed.has_matching(subject),
+        }
     }
 
     /// Whether a fact tells it something, by one more token.
@@ -269,12 +273,7 @@ impl Account {
     pub fn is_listed(&self, subject: &Subject) -> bool
         ensures { result ≡ list_any (is_identical subject.now) self.now.owing.stream.listed }
     {
-        for other in self.listed.as_slice() {
-            if identical(subject, other) {
-                return true;
-            }
-        }
-        false
+        self.listed.has(subject)
     }
 
     /// Room for one more token, where a fact tells it something.
@@ -294,7 +293,7 @@ impl Account {
         ensures ok { OnOk result (HasRoomFor (streams.is_named name.now) subjects_in self.new) }
     {
         if self.is_named(name) {
-            self.listed.reserve(1)?;
+            self.listed.reserve()?;
         }
         Ok(())
     }
@@ -364,17 +363,14 @@ impl Account {
         requires { 0 < self.old.subjects }
         ensures { self.new.owing ≡ owing_with (streams.with_listed (streams.list_added subject self.old.owing.stream.listed) self.old.owing.stream) self.old.owing }
     {
-        if !self.is_listed(&subject) {
-            // There is room, so the push keeps the subject.
-            let _ = self.listed.push(subject);
-        }
+        self.listed.add(subject);
     }
 
     /// Takes a subject off its list. It takes no memory.
     pub fn unlist(&mut self, subject: &Subject)
         ensures { self.new.owing ≡ owing_with (streams.with_listed (streams.list_removed subject.now self.old.owing.stream.listed) self.old.owing.stream) self.old.owing }
     {
-        self.listed.retain(|other| !identical(subject, other));
+        self.listed.remove(subject);
     }
 
     /// Takes off the tokens of these numbers. It takes no memory.

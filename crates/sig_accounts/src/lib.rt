@@ -5,9 +5,9 @@
 //!
 //! Promised: each change of a stream is that of the history; it keeps its debts in order of number, in which they are looked for
 //! by halves; a change takes no memory where its room was reserved, and reserving changes no stream; streams are the same
-//! exactly where their tokens say the same. Tokens that are kept of a publication share their streams' names, and `debts` takes
-//! settled ones off at the front, which no contract says. Left out: which changes a fact makes of all streams, which
-//! `sig_ledger` says.
+//! exactly where their tokens say the same. Tokens that are kept of a publication share their streams' names, `debts` takes
+//! settled ones off at the front, and `subjects` looks those on a list up in a map, which no contract says. Left out: which
+//! changes a fact makes of all streams, which `sig_ledger` says.
 #![tactic(auto)]
 
 mod account;
@@ -24,6 +24,7 @@ mod places;
 mod publication;
 mod sameness;
 mod shared_name;
+mod subjects;
 
 pub use account::Account;
 pub use accounts::{

@@ -1,0 +1,7 @@
+use Rattle.std.proofs.Common.{◌≡◌, ◌≤◌, drop, length}
+use Rattle.indexmap.specs.IndexMap.{keys}
+use Rattle.sig_accounts.specs.Listing.{listed_in}
+use Rattle.sig_accounts.proofs.subjects.first_from.Given as goal
+
+abbrev pub invariant-loop-place : goal.invariant-loop-place
+invariant-loop-place l = (l.place ≤ length l.order) × (listed_in (keys l.places) (drop l.from l.order) ≡ listed_in (keys l.places) (drop l.place l.order))
