@@ -12,17 +12,21 @@ use indexmap::IndexMap;
 use sig_json::{Memory, Same};
 use sig_subject::{Subject, matches};
 use std::alloc::Global;
+use std::hash::{BuildHasherDefault, DefaultHasher};
 use std::marker::Model;
+
+// Each subject with its place in the order. Clients choose subjects, and under the hash that a map takes by itself they could
+// easily choose such as fall together.
+type Places = IndexMap<Subject, usize, BuildHasherDefault<DefaultHasher>>;
 
 // A list of up to so many places never lets go of them.
 const PLACES_KEPT: usize = 64;
 
-/// The subjects on a stream's list. To add one, to take one off and to ask for one costs the same however many are listed.
+/// The subjects on a stream's list. To add one, to take one off and to ask for one is a look-up, however many are listed.
 ///
 /// Contracts see them in the order in which they were added, and for how many further ones there is room.
 pub struct Subjects {
-    // Each subject with its place in the order.
-    places: IndexMap<Subject, usize>,
+    places: Places,
     // At each place where its subject stands among them; none where that was taken off.
     order: Vec<Option<usize>>,
 }
@@ -56,7 +60,7 @@ impl Subjects {
         ensures { result ≡ record { listed = []; room = 0 } }
     {
         Subjects {
-            places: IndexMap::new(alloc),
+            places: IndexMap::with_hasher(alloc, BuildHasherDefault::new()),
             order: Vec::new(alloc),
         }
     }
@@ -158,13 +162,10 @@ impl Subjects {
 }
 
 // Equal entries in the same order.
-fn copy_places(
-    alloc: Global,
-    places: &IndexMap<Subject, usize>,
-) -> Result<IndexMap<Subject, usize>, Memory>
+fn copy_places(alloc: Global, places: &Places) -> Result<Places, Memory>
     ensures { IfOk result (λ copy. copy.entries ≡ places.now.entries) }
 {
-    let mut copy = IndexMap::new(alloc);
+    let mut copy = IndexMap::with_hasher(alloc, BuildHasherDefault::new());
     for index in 0..places.len() {
         let (subject, place) = places.get_index(index).unwrap();
         let subject = subject.copy(alloc)?;
@@ -174,18 +175,14 @@ fn copy_places(
 }
 
 // Whether this subject matches one of them.
-fn matches_one(subject: &Subject, places: &IndexMap<Subject, usize>) -> bool
+fn matches_one(subject: &Subject, places: &Places) -> bool
     ensures { result ≡ list_any (is_matching subject.now) (keys places.now) }
 {
     places.keys().any(|other| matches(subject, other))
 }
 
 // The subject of a place.
-fn subject_at<'a>(
-    places: &'a IndexMap<Subject, usize>,
-    order: &[Option<usize>],
-    place: usize,
-) -> Option<&'a Subject>
+fn subject_at<'a>(places: &'a Places, order: &[Option<usize>], place: usize) -> Option<&'a Subject>
     requires { place < length order.now }
     ensures { listed_in (keys places.now) (drop place order.now)
         ≡ cons_option (option_map (λ s. s.now) result) (listed_in (keys places.now) (drop (place + 1) order.now)) }
@@ -197,7 +194,7 @@ fn subject_at<'a>(
 
 // The first subject from a place on, with its own place.
 fn first_from<'a>(
-    places: &'a IndexMap<Subject, usize>,
+    places: &'a Places,
     order: &[Option<usize>],
     from: usize,
 ) -> Option<(usize, &'a Subject)>
@@ -217,9 +214,9 @@ fn first_from<'a>(
 
 // Whether the same is listed in the same order.
 fn same_listed(
-    places: &IndexMap<Subject, usize>,
+    places: &Places,
     order: &[Option<usize>],
-    other_places: &IndexMap<Subject, usize>,
+    other_places: &Places,
     other_order: &[Option<usize>],
 ) -> bool
     ensures { IsTrue result ↔ (listed_in (keys places.now) order.now ≡ listed_in (keys other_places.now) other_order.now) }
@@ -237,7 +234,7 @@ fn same_listed(
 }
 
 // Takes the subject that stands at an index off. The last one takes its place among the others, and none another in the order.
-fn take_off(places: &mut IndexMap<Subject, usize>, order: &mut [Option<usize>], index: usize)
+fn take_off(places: &mut Places, order: &mut [Option<usize>], index: usize)
     requires linked { AreLinked (values places.old) order.old }
     requires within { index < index_map_len places.old }
     ensures linked { AreLinked (values places.new) order.new }
@@ -255,7 +252,7 @@ fn take_off(places: &mut IndexMap<Subject, usize>, order: &mut [Option<usize>], 
 }
 
 // Moves what is listed down over empty places, in order, and says where it ends.
-fn close_up(places: &mut IndexMap<Subject, usize>, order: &mut [Option<usize>]) -> usize
+fn close_up(places: &mut Places, order: &mut [Option<usize>]) -> usize
     requires { AreLinked (values places.old) order.old }
     ensures within { result ≤ length order.new }
     ensures linked { AreLinked (values places.new) (take result order.new) }
