@@ -14,7 +14,7 @@ second e = e.1
 
 out_of : (c : goal.Joined-this) → IsSwappedOut c.args.places.now.entries c.swap_remove_index.new.self.entries c.args.index
     × (slice_get (values_of c.args.places.now.entries) c.args.index ≡ Some c.in-Some.place)
-out_of c = swapped_entry c.args.places.now.entries c.swap_remove_index.new.self.entries c.args.index c.swap_remove_index.result c.in-Some.field-0-0 c.in-Some.place
+out_of c = swapped_entry c.args.places.now.entries c.swap_remove_index.new.self.entries c.args.index c.swap_remove_index.result _ c.in-Some.place
     c.requires.within c.swap_remove_index.ensures.entry c.in-Some.is c.swap_remove_index.ensures.entries
 
 pub bounds-order-place : goal.bounds-order-place
@@ -34,7 +34,7 @@ module _ (c : goal.After-row_known-1) where
   fs = c.swap_remove_index.new.self.entries
 
   moved_out : IsSwappedOut es fs c.args.index × (slice_get (values_of es) c.args.index ≡ Some c.in-Some.place)
-  moved_out = swapped_entry es fs c.args.index c.swap_remove_index.result c.in-Some.field-0-0 c.in-Some.place
+  moved_out = swapped_entry es fs c.args.index c.swap_remove_index.result _ c.in-Some.place
       c.requires.within c.swap_remove_index.ensures.entry c.in-Some.is c.swap_remove_index.ensures.entries
 
   below : c.args.index < length (values_of fs)
@@ -67,7 +67,7 @@ module _ (c : goal.Else-index-len) where
   left = c.swap_remove_index.new.self.entries
 
   last_out : IsSwappedOut all left c.args.index × (slice_get (values_of all) c.args.index ≡ Some c.in-Some.place)
-  last_out = swapped_entry all left c.args.index c.swap_remove_index.result c.in-Some.field-0-0 c.in-Some.place
+  last_out = swapped_entry all left c.args.index c.swap_remove_index.result _ c.in-Some.place
       c.requires.within c.swap_remove_index.ensures.entry c.in-Some.is c.swap_remove_index.ensures.entries
 
   past : length (values_of left) ≤ c.args.index
