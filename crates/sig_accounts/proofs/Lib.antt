@@ -1,6 +1,8 @@
 pub mod DebtLemmas
 pub mod TextLemmas
+mod EventLemmas
 pub mod BalanceLemmas
+pub mod TellingLemmas
 pub mod CountLemmas
 pub mod NameLemmas
 pub mod PlaceLemmas

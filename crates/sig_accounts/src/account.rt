@@ -12,6 +12,7 @@ ghost use Rattle.sig_accounts.specs.declared.debt.Debt.{Debt};
 
 use crate::debt::{Debt, Notice, Said};
 use crate::debts::Debts;
+use crate::delivering::delivers_event;
 use crate::names::client_in;
 use crate::shared_name::SharedName;
 use crate::subjects::Subjects;
@@ -19,7 +20,7 @@ use indexmap::IndexSet;
 use sig_event::{News, Status};
 use sig_json::{Items, Memory, Same, Text, copy_optional};
 use sig_subject::Subject;
-use sig_terms::{Defaults, Delivery, Fact, StreamConf, delivers};
+use sig_terms::{Defaults, Delivery, Fact, StreamConf};
 use std::alloc::Global;
 use std::marker::Model;
 
@@ -89,7 +90,7 @@ impl Model for Account {
 }
 
 impl Account {
-    ghost use Rattle.sig_accounts.specs.Owings.{Balance, opened_balance, owing_asked, owing_heard, owing_noted, owing_set, owing_settled, owing_told, owing_with, room_in, subjects_in};
+    ghost use Rattle.sig_accounts.specs.Owings.{Balance, opened_balance, owing_asked, owing_noted, owing_set, owing_settled, owing_told, owing_with, subjects_in};
     ghost use Rattle.sig_accounts.specs.Owings.{HasRoomFor};
 
     /// A new stream, with its name to be shared: it is enabled, has nobody on its list, and no token was made for it. It takes
@@ -239,7 +240,7 @@ impl Account {
         ensures { result ≡ streams.is_due news.now self.now.owing.stream }
     {
         !is_disabled(self.status)
-            && delivers(&self.conf, news.event.uri())
+            && delivers_event(&self.conf, &news.event)
             && self.fits(&news.subject)
     }
 
@@ -276,15 +277,12 @@ impl Account {
         self.listed.has(subject)
     }
 
-    /// Room for one more token, where a fact tells it something.
-    pub fn reserve_token(&mut self, fact: &Fact) -> Result<(), Memory>
+    /// Room for one more token.
+    pub fn reserve_token(&mut self) -> Result<(), Memory>
         ensures same { self.new.owing ≡ self.old.owing }
-        ensures ok { OnOk result (HasRoomFor (facts.is_told fact.now) room_in self.new) }
+        ensures ok { OnOk result (0 < self.new.room) }
     {
-        if self.is_told(fact) {
-            self.owed.reserve()?;
-        }
-        Ok(())
+        self.owed.reserve()
     }
 
     /// Room for one more subject on its list, where it has this name.
@@ -307,17 +305,6 @@ impl Account {
         self.made += 1;
         let number = self.made;
         self.owed.push(Debt { number, time, said });
-    }
-
-    /// Makes a token, where the publication at a place is due on it. It takes no memory.
-    pub fn hear(&mut self, news: &News, time: u64, place: usize)
-        requires room { HasRoomFor (streams.is_due news.now) room_in self.old }
-        requires number { self.old.owing.stream.made + 1 < 2 ^ 64 }
-        ensures { self.new.owing ≡ owing_heard news.now time place self.old.owing }
-    {
-        if self.is_due(news) {
-            self.tell(time, Said::Published { place });
-        }
     }
 
     /// Sets what a receiver may set of its configuration. It takes no memory.

@@ -2,17 +2,12 @@
 
 ghost use Rattle.std.specs.Prelude.{◌≡◌, ◌+◌, ◌<◌, ◌≤◌, All, IfOk, OnOk, None, length, map, option_map, vec_len, vec_capacity};
 ghost use Rattle.std.specs.List.{insert, position_or_len, slice_get};
-ghost use Rattle.sig_history.specs.Facts.{is_told};
 ghost use Rattle.sig_history.specs.Streams as streams;
-ghost use Rattle.sig_accounts.specs.Owings.{Balance, client_owing, has_name, issued_by, owing_heard, owing_in, owing_named, put_balance, room_in, stream_in, subjects_in};
-ghost use Rattle.sig_accounts.specs.Owings.{HasRoomFor, IsBelowTop};
+ghost use Rattle.sig_accounts.specs.Owings.{Balance, client_owing, has_name, owing_in, owing_named, put_balance, stream_in, subjects_in};
+ghost use Rattle.sig_accounts.specs.Owings.{HasRoomFor};
 
 use crate::account::Account;
-use crate::kept_token::KeptToken;
-use sig_event::News;
-use sig_json::{Items, Memory, Text};
-use sig_terms::Fact;
-use std::alloc::Global;
+use sig_json::{Memory, Text};
 
 /// The first stream of a name.
 pub fn account_named<'a>(accounts: &'a [Account], name: &str) -> Option<&'a Account>
@@ -86,17 +81,6 @@ pub fn place_named(accounts: &[Account], name: &str) -> usize
     accounts.len()
 }
 
-/// Room for one more token on each stream that a fact tells something.
-pub fn reserve_tokens(accounts: &mut [Account], fact: &Fact) -> Result<(), Memory>
-    ensures same { map owing_in accounts.new ≡ map owing_in accounts.old }
-    ensures ok { OnOk result (All (HasRoomFor (is_told fact.now) room_in) accounts.new) }
-{
-    for account in accounts.iter_mut() {
-        account.reserve_token(fact)?;
-    }
-    Ok(())
-}
-
 /// Room for one more subject on the list of the stream of a name.
 pub fn reserve_subjects(accounts: &mut [Account], name: &str) -> Result<(), Memory>
     ensures same { map owing_in accounts.new ≡ map owing_in accounts.old }
@@ -106,36 +90,6 @@ pub fn reserve_subjects(accounts: &mut [Account], name: &str) -> Result<(), Memo
         account.reserve_subject(name)?;
     }
     Ok(())
-}
-
-/// Makes a token on each stream on which the publication at a place is due. It takes no memory.
-pub fn hear_all(accounts: &mut [Account], news: &News, time: u64, place: usize)
-    requires rooms { All (HasRoomFor (streams.is_due news.now) room_in) accounts.old }
-    requires numbers { All IsBelowTop accounts.old }
-    ensures { map owing_in accounts.new ≡ map (owing_heard news.now time place) (map owing_in accounts.old) }
-{
-    for account in accounts.iter_mut() {
-        account.hear(news, time, place);
-    }
-}
-
-/// The tokens that a fact makes, by stream and number. Each shares its stream's name.
-pub fn issued_on(
-    alloc: Global,
-    accounts: &[Account],
-    fact: &Fact,
-) -> Result<Items<KeptToken>, Memory>
-    requires { All IsBelowTop accounts.now }
-    ensures { IfOk result (λ items. items ≡ issued_by fact.now (map stream_in (map owing_in accounts.now))) }
-{
-    let mut issued = Vec::new(alloc);
-    for account in accounts {
-        if account.is_told(fact) {
-            let name = account.name().share()?;
-            issued.push(KeptToken::of(name, account.made() + 1))?;
-        }
-    }
-    Ok(Items::of(issued))
 }
 
 /// The name of the stream at a place.

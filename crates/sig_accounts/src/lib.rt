@@ -4,19 +4,22 @@
 //! the room that it holds; `specs/Owings` says what a fact leaves of it, and which tokens its debts are.
 //!
 //! Promised: each change of a stream is that of the history; it keeps its debts in order of number, in which they are looked for
-//! by halves; a change takes no memory where its room was reserved, and reserving changes no stream; streams are the same
-//! exactly where their tokens say the same. Tokens that are kept of a publication share their streams' names, `debts` takes
-//! settled ones off at the front, and `subjects` looks those on a list up in a map, which no contract says. Left out: which
-//! changes a fact makes of all streams, which `sig_ledger` says.
+//! by halves; a change takes no memory where its room was reserved, and reserving changes no stream; which streams a fact tells
+//! is found once (`Addressed`), and what it makes on them goes by that; streams are the same exactly where their tokens say the
+//! same. Tokens that are kept of a publication share their streams' names, `debts` takes settled ones off at the front, and
+//! `subjects` looks those on a list up in a map, which no contract says. Left out: which changes a fact makes of all streams,
+//! which `sig_ledger` says.
 #![tactic(auto)]
 
 mod account;
 mod accounts;
+mod addressed;
 mod copying;
 mod counted;
 mod counts;
 mod debt;
 mod debts;
+mod delivering;
 mod kept_token;
 mod names;
 mod overseen;
@@ -25,12 +28,14 @@ mod publication;
 mod sameness;
 mod shared_name;
 mod subjects;
+mod telling;
+mod told_streams;
 
 pub use account::Account;
 pub use accounts::{
-    account_named, client_account, hear_all, issued_on, name_at, place_named, put_account,
-    reserve_subjects, reserve_tokens, streams_of,
+    account_named, client_account, name_at, place_named, put_account, reserve_subjects, streams_of,
 };
+pub use addressed::{Addressed, addressed_to};
 pub use copying::{copy_accounts, copy_list};
 pub use counted::Counted;
 pub use counts::{count_one, created_by};
@@ -41,3 +46,5 @@ pub use places::{enter_place, place_of, places_of, reserve_place};
 pub use publication::{Publication, publication_at};
 pub use sameness::same_accounts;
 pub use shared_name::SharedName;
+pub use telling::{hear_all, issued_on, reserve_tokens};
+pub use told_streams::{ToldStreams, told_by};

@@ -7,17 +7,18 @@ use Rattle.std.proofs.lemmas.Bool.{false≢true}
 use Rattle.sig_event.specs.declared.status.Status.{Status}
 use Rattle.sig_subject.specs.declared.subject.Subject.{Subject}
 use Rattle.sig_terms.specs.declared.fact.Fact.{Fact}
-use Rattle.sig_terms.specs.declared.fact.Fact.TheVariants.{Listed, StatusSet}
+use Rattle.sig_terms.specs.declared.fact.Fact.TheVariants.{Created, Configured, StatusSet, Listed, Unlisted, Deleted, Published, Settled, Asked}
 use Rattle.sig_history.specs.Facts.{is_told}
 use Rattle.sig_history.specs.Standings as standings
-use Rattle.sig_history.specs.Streams.{Stream, Count, Publication, is_named}
+use Rattle.sig_history.specs.Streams.{Stream, Count, Parts, Publication, is_named}
 use Rattle.sig_accounts.specs.declared.debt.Notice.{Notice}
 use Rattle.sig_accounts.proofs.FoundLemmas.{book_streams}
 use Rattle.sig_history.specs.Whole.{IsWhole}
 use Rattle.sig_accounts.specs.Owings.{Balance, notice_for, owing_in, room_in, standing_of, stream_in, subjects_in}
 use Rattle.sig_ledger.specs.Books.{sum_in}
 use Rattle.sig_accounts.specs.Owings.{HasRoomFor, IsBelowTop}
-use Rattle.sig_ledger.specs.Room.{HaveRoom}
+use Rattle.sig_accounts.specs.Telling.{Addressed, IsAddressed}
+use Rattle.sig_ledger.specs.Room.{HasOwnSpace, HasRoom, HaveRoom, IsAddressedIn, IsSpare, Rooms, Spare, with_told}
 
 pub rooms_held : (test : Stream → Bool) (room : Balance → ℕ) (bs : List Balance)
     → HaveRoom test (map stream_in (map owing_in bs)) (map room bs) → All (HasRoomFor test room) bs
@@ -84,3 +85,33 @@ on_ok A B more (Err e) a = tt
 pub ok_is : {T E : Type 0} (a b : T) → a ≡ b → (r : Result T E) → IfOk r (λ x. x ≡ a) → IfOk r (λ x. x ≡ b)
 ok_is a b same (Ok x) is = is ∙ same
 ok_is a b same (Err e) is = tt
+
+-- ---- the streams that a fact tells
+
+-- the streams of the books are those that are held
+pub told_in : (sid : List ℕ) (published : List Publication) (created : List Count) (bs : List Balance) (a : Addressed)
+    → IsAddressedIn (sum_in (record { store_id = sid; owings = map owing_in bs; created = created; published = published })).parts a
+    → IsAddressed (map stream_in (map owing_in bs)) a
+told_in sid published created bs a is = is ∙ ap (map (is_told a.fact)) (book_streams sid published (map owing_in bs))
+
+-- what is kept of a fact beside itself is so whatever streams it tells
+told_beside : (parts : Parts) (f : Fact) (s : Spare) (told : List Bool) → IsSpare parts f s → IsSpare parts f (with_told told s)
+told_beside parts (Created conf time) s told is = is
+told_beside parts (Configured stream requested delivery description) s told is = is
+told_beside parts (StatusSet stream status reason operator time) s told is = is
+told_beside parts (Listed stream subject) s told is = is
+told_beside parts (Unlisted stream subject) s told is = is
+told_beside parts (Deleted stream) s told is = is
+told_beside parts (Published id news time) s told is = is
+told_beside parts (Settled stream items) s told is = is
+told_beside parts (Asked stream state time) s told is = is
+
+pub ready_with : (parts : Parts) (room : Rooms) (a : Addressed) (s : Spare) → IsAddressedIn parts a → IsSpare parts a.fact s
+    → HaveRoom (is_told a.fact) parts.streams room.tokens → HasOwnSpace parts room a.fact
+    → HasRoom parts room (record { fact = a.fact; spare = with_told a.told s })
+ready_with parts room a s told spare tokens space = record {
+  spare = told_beside parts a.fact s a.told spare;
+  told = told;
+  tokens = tokens;
+  space = space;
+}

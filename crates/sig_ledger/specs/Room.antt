@@ -6,6 +6,7 @@ use Rattle.sig_terms.specs.declared.token.Issued.{Issued}
 use Rattle.sig_history.specs.Streams.{Stream, Parts, client_in, is_named, issued_of}
 use Rattle.sig_history.specs.Facts.{is_told, made_by}
 use Rattle.sig_accounts.specs.Owings.{AreNumbers}
+use Rattle.sig_accounts.specs.Telling.{Addressed, IsAddressed}
 use Rattle.sig_ledger.specs.Books.{Books}
 
 -- for how many further items there is room: streams, counts of clients, publications, their ids in the index, and tokens and
@@ -24,15 +25,24 @@ pub record Held : Type 0 where
   pub room : Rooms
 
 -- what is kept of a fact beside itself: the client's name for its count, and a new stream's for its tokens to share; a publication's
--- id for the index, and the tokens that it makes; the numbers that are settled, for look-ups; the reason of a status, for the
--- token that tells it
+-- id for the index, and the tokens that it makes; a mark for each stream, in order, that says whether the fact tells it; the numbers
+-- that are settled, for look-ups; the reason of a status, for the token that tells it
 pub record Spare : Type 0 where
   pub client : List ℕ
   pub name : Option (List ℕ)
   pub id : List ℕ
   pub issued : List Issued
+  pub told : List Bool
   pub numbers : List ℕ
   pub reason : Option (List ℕ)
+
+-- a fact with the marks of exactly those of these streams that it tells
+abbrev pub IsAddressedIn : Parts → Addressed → Type 0
+IsAddressedIn parts a = IsAddressed parts.streams a
+
+-- the same with these marks
+abbrev pub with_told : List Bool → Spare → Spare
+with_told told s = record { client = s.client; name = s.name; id = s.id; issued = s.issued; told = told; numbers = s.numbers; reason = s.reason }
 
 -- a fact, with what is kept beside it
 pub record Ready : Type 0 where
@@ -69,9 +79,10 @@ HasOwnSpace parts room (Published id news time) = (0 < room.published) × (0 < r
 HasOwnSpace parts room (Settled stream items) = Unit {0}
 HasOwnSpace parts room (Asked stream state time) = Unit {0}
 
--- a fact may be taken in without memory: what is kept beside it is there, each stream that it tells has room for a token, and
--- there is room for the rest
+-- a fact may be taken in without memory: what is kept beside it is there, and the marks of exactly the streams that it tells, each
+-- of which has room for a token, and there is room for the rest
 pub record HasRoom (parts : Parts) (room : Rooms) (r : Ready) : Type 0 where
   pub spare : IsSpare parts r.fact r.spare
+  pub told : r.spare.told ≡ map (is_told r.fact) parts.streams
   pub tokens : HaveRoom (is_told r.fact) parts.streams room.tokens
   pub space : HasOwnSpace parts room r.fact

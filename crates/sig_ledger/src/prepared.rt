@@ -1,7 +1,7 @@
 ghost use Rattle.std.specs.Prelude.{◌≡◌, [], None, Some, is_some, true};
 
 use indexmap::IndexSet;
-use sig_accounts::{KeptToken, SharedName};
+use sig_accounts::{Addressed, KeptToken, SharedName, ToldStreams};
 use sig_json::{Items, Text};
 use sig_terms::Fact;
 use std::alloc::Global;
@@ -14,6 +14,7 @@ pub struct Spare {
     name: Option<SharedName>,
     id: Text,
     issued: Items<KeptToken>,
+    told: ToldStreams,
     numbers: IndexSet<u64>,
     reason: Option<Text>,
 }
@@ -23,19 +24,28 @@ impl Model for Spare {
 
     ghost Value = { room.Spare };
 
-    ghost view = { λ s. record { client = s.client; name = s.name; id = s.id; issued = s.issued; numbers = s.numbers.keys; reason = s.reason } };
+    ghost view = { λ s. record {
+      client = s.client;
+      name = s.name;
+      id = s.id;
+      issued = s.issued;
+      told = s.told;
+      numbers = s.numbers.keys;
+      reason = s.reason;
+    } };
 }
 
 impl Spare {
     /// For a fact of which nothing is kept beside itself. It takes no memory.
     pub fn none(alloc: Global) -> Spare
-        ensures { result ≡ record { client = []; name = None; id = []; issued = []; numbers = []; reason = None } }
+        ensures { result ≡ record { client = []; name = None; id = []; issued = []; told = []; numbers = []; reason = None } }
     {
         Spare {
             client: Text::from_string(String::new(alloc)),
             name: None,
             id: Text::from_string(String::new(alloc)),
             issued: Items::of(Vec::new(alloc)),
+            told: ToldStreams::none(alloc),
             numbers: IndexSet::new(alloc),
             reason: None,
         }
@@ -43,7 +53,7 @@ impl Spare {
 
     /// For a stream that is made: its client's name, for its count, and its own, for its tokens to share.
     pub fn for_stream(alloc: Global, client: Text, name: SharedName) -> Spare
-        ensures { result ≡ record { client = client; name = Some name; id = []; issued = []; numbers = []; reason = None } }
+        ensures { result ≡ record { client = client; name = Some name; id = []; issued = []; told = []; numbers = []; reason = None } }
     {
         let mut spare = Spare::none(alloc);
         spare.client = client;
@@ -53,7 +63,7 @@ impl Spare {
 
     /// For a publication: its id, for the index, and the tokens that it makes.
     pub fn for_tokens(alloc: Global, id: Text, issued: Items<KeptToken>) -> Spare
-        ensures { result ≡ record { client = []; name = None; id = id; issued = issued; numbers = []; reason = None } }
+        ensures { result ≡ record { client = []; name = None; id = id; issued = issued; told = []; numbers = []; reason = None } }
     {
         let mut spare = Spare::none(alloc);
         spare.id = id;
@@ -63,7 +73,7 @@ impl Spare {
 
     /// For tokens that are settled: their numbers.
     pub fn for_numbers(alloc: Global, numbers: IndexSet<u64>) -> Spare
-        ensures { result ≡ record { client = []; name = None; id = []; issued = []; numbers = numbers.keys; reason = None } }
+        ensures { result ≡ record { client = []; name = None; id = []; issued = []; told = []; numbers = numbers.keys; reason = None } }
     {
         let mut spare = Spare::none(alloc);
         spare.numbers = numbers;
@@ -72,7 +82,7 @@ impl Spare {
 
     /// For a status: its reason, for the token that tells it.
     pub fn for_reason(alloc: Global, reason: Option<Text>) -> Spare
-        ensures { result ≡ record { client = []; name = None; id = []; issued = []; numbers = []; reason = reason } }
+        ensures { result ≡ record { client = []; name = None; id = []; issued = []; told = []; numbers = []; reason = reason } }
     {
         let mut spare = Spare::none(alloc);
         spare.reason = reason;
@@ -88,12 +98,13 @@ impl Spare {
         (self.client, self.name.unwrap())
     }
 
-    /// The id of a publication, and the tokens that it makes.
-    pub(crate) fn into_tokens(self) -> (Text, Items<KeptToken>)
+    /// The id of a publication, the tokens that it makes, and the streams on which it is due.
+    pub(crate) fn into_tokens(self) -> (Text, Items<KeptToken>, ToldStreams)
         ensures id { result.0 ≡ self.id }
         ensures issued { result.1 ≡ self.issued }
+        ensures told { result.2 ≡ self.told }
     {
-        (self.id, self.issued)
+        (self.id, self.issued, self.told)
     }
 
     /// The numbers of tokens that are settled.
@@ -127,10 +138,15 @@ impl Model for Prepared {
 }
 
 impl Prepared {
-    /// A fact, with what is kept beside it.
-    pub fn of(fact: Fact, spare: Spare) -> Prepared
-        ensures { result ≡ record { fact = fact; spare = spare } }
+    ghost use Rattle.sig_ledger.specs.Room.{with_told};
+
+    /// A fact and the streams that it tells, with what else is kept beside it.
+    pub fn of(addressed: Addressed, spare: Spare) -> Prepared
+        ensures { result ≡ record { fact = addressed.fact; spare = with_told addressed.told spare } }
     {
+        let (fact, told) = addressed.into_parts();
+        let mut spare = spare;
+        spare.told = told;
         Prepared { fact, spare }
     }
 

@@ -6,10 +6,11 @@ ghost use Rattle.sig_history.specs.Owed.{sum_of};
 ghost use Rattle.sig_history.specs.Sound as sound;
 ghost use Rattle.sig_history.specs.Sound.{Fits};
 ghost use Rattle.sig_ledger.specs.Books.{sum_in};
+ghost use Rattle.sig_ledger.specs.Room.{IsAddressedIn};
 ghost use Rattle.sig_outbox.specs.State.{taken_where};
 
 use sig_json::{Memory, MemoryRefusal};
-use sig_ledger::Ledger;
+use sig_ledger::{Addressed, Ledger};
 use sig_terms::Fact;
 use sig_token_calls::may_be_made;
 use thiserror::Error;
@@ -37,17 +38,19 @@ impl<R: MemoryRefusal> From<R> for ApplyFault {
 }
 
 // Whether a fact may follow what a ledger's history came to.
-fn is_fitting(ledger: &Ledger, fact: &Fact) -> Result<bool, Memory>
-    ensures { IfOk result (λ b. b ≡ sound.is_fitting (sum_in ledger.now.books) fact.now) }
+fn is_fitting(ledger: &Ledger, addressed: &Addressed) -> Result<bool, Memory>
+    requires { IsAddressedIn (sum_in ledger.now.books).parts addressed.now }
+    ensures { IfOk result (λ b. b ≡ sound.is_fitting (sum_in ledger.now.books) addressed.now.fact) }
 {
-    Ok(may_be_made(ledger, fact)? && ledger.is_apt(fact)?)
+    Ok(may_be_made(ledger, addressed)? && ledger.is_apt(addressed.fact())?)
 }
 
 // What is answered of a fact before it is taken in.
-fn admitted(ledger: &Ledger, fact: &Fact) -> Result<(), ApplyFault>
-    ensures { Answers ApplyFault.Memory result (taken_where (sound.is_fitting (sum_in ledger.now.books) fact.now)) }
+fn admitted(ledger: &Ledger, addressed: &Addressed) -> Result<(), ApplyFault>
+    requires { IsAddressedIn (sum_in ledger.now.books).parts addressed.now }
+    ensures { Answers ApplyFault.Memory result (taken_where (sound.is_fitting (sum_in ledger.now.books) addressed.now.fact)) }
 {
-    if is_fitting(ledger, fact)? {
+    if is_fitting(ledger, addressed)? {
         Ok(())
     } else {
         Err(ApplyFault::Bad)
@@ -55,12 +58,13 @@ fn admitted(ledger: &Ledger, fact: &Fact) -> Result<(), ApplyFault>
 }
 
 // Takes in a fact that fits. Out of memory leaves the books as they were.
-fn take(ledger: &mut Ledger, fact: Fact) -> Result<(), Memory>
-    requires { Fits (sum_in ledger.old.books) fact }
-    ensures takes { OnOk result (sum_in ledger.new.books ≡ sum_of (sum_in ledger.old.books) (fact ∷ [])) }
+fn take(ledger: &mut Ledger, addressed: Addressed) -> Result<(), Memory>
+    requires fits { Fits (sum_in ledger.old.books) addressed.fact }
+    requires told { IsAddressedIn (sum_in ledger.old.books).parts addressed }
+    ensures takes { OnOk result (sum_in ledger.new.books ≡ sum_of (sum_in ledger.old.books) (addressed.fact ∷ [])) }
     ensures stays { OnErr result (ledger.new.books ≡ ledger.old.books) }
 {
-    let prepared = ledger.ready(fact)?;
+    let prepared = ledger.ready(addressed)?;
     ledger.commit(prepared);
     Ok(())
 }
@@ -71,11 +75,12 @@ pub(crate) fn take_in(ledger: &mut Ledger, fact: Fact) -> Result<(), ApplyFault>
     ensures takes { OnOk result (sum_in ledger.new.books ≡ sum_of (sum_in ledger.old.books) (fact ∷ [])) }
     ensures stays { OnErr result (ledger.new.books ≡ ledger.old.books) }
 {
-    match admitted(ledger, &fact) {
-        Ok(()) => Ok(take(ledger, fact)?),
+    let addressed = ledger.address(fact)?;
+    match admitted(ledger, &addressed) {
+        Ok(()) => Ok(take(ledger, addressed)?),
         Err(fault) => {
-            // It is dropped by itself, so that this function has no part of its many kinds.
-            drop(fact);
+            // It is dropped by itself, so that this function has no part of its fact's many kinds.
+            drop(addressed);
             Err(fault)
         }
     }

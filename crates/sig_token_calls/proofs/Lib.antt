@@ -8,4 +8,5 @@ pub mod PolledLemmas
 pub mod SettlingLemmas
 pub mod SizeLemmas
 pub mod TokenLemmas
+pub mod ToldLemmas
 pub mod VerdictLemmas

@@ -6,7 +6,7 @@ use Rattle.sig_terms.specs.declared.fact.Fact.{Fact}
 use Rattle.sig_terms.specs.declared.fact.Fact.TheVariants.{Settled}
 use Rattle.sig_terms.specs.declared.fact.SettledItem.{SettledItem}
 use Rattle.sig_history.specs.Streams.{Stream, Publication, Made, Parts, is_enabled, is_update, stands}
-use Rattle.sig_history.specs.Facts.{made_by, parts_after, stream_after, token_for}
+use Rattle.sig_history.specs.Facts.{parts_after, stream_after, token_for}
 use Rattle.sig_history.specs.Owed.{Sum, is_of, names_number, offered_by, offers, owed_after, owed_by, stream_named, sum_of, survives, takes_off}
 use Rattle.sig_history.proofs.JoinLemmas.{filter_same, found}
 use Rattle.sig_calls.specs.Settling.{settled_fact}

@@ -11,8 +11,8 @@ use Rattle.sig_terms.specs.declared.fault.PrepareFault.{PrepareFault}
 use Rattle.sig_token_calls.specs.declared.reply.Reply as replies
 use Rattle.sig_terms.specs.declared.fact.Fact.{Fact}
 use Rattle.sig_terms.specs.declared.fact.SettledItem.{SettledItem}
-use Rattle.sig_history.specs.Streams.{Stream, Publication, Made, jti_of}
-use Rattle.sig_history.specs.Owed.{Sum, offered_by, owed_by, sum_of}
+use Rattle.sig_history.specs.Streams.{Stream, Publication, jti_of}
+use Rattle.sig_history.specs.Owed.{Sum, offered_by, sum_of}
 use Rattle.sig_calls.specs.Found.{told_by}
 use Rattle.sig_calls.specs.Polling.{page_of, page_size, polled, polled_answer, polled_change, polling, settled_by, settled_items}
 use Rattle.sig_calls.specs.Settling.{settled_fact}

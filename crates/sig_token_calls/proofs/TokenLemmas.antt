@@ -13,8 +13,12 @@ use Rattle.sig_history.specs.Facts.{is_told, made_by, said_by, time_of, token_by
 use Rattle.sig_history.specs.Sound.{is_past, largest}
 use Rattle.sig_history.specs.Standings.{owed_in_standing, stream_in}
 use Rattle.sig_history.specs.Whole.{AreWhole}
+use Rattle.sig_accounts.specs.Owings as books
 use Rattle.sig_accounts.specs.Owings.{Balance, owing_in, standing_of}
+use Rattle.sig_accounts.specs.Telling.{Addressed, IsAddressed}
+use Rattle.sig_accounts.proofs.FoundLemmas.{book_streams}
 use Rattle.sig_ledger.specs.Books.{AreKept, Books, sum_in}
+use Rattle.sig_ledger.specs.Room.{IsAddressedIn}
 use Rattle.sig_token_calls.specs.Tokens.{IsNumbered, is_full, stream_of, tokens_on}
 
 -- ---- facts that tell nothing
@@ -93,3 +97,9 @@ pub past_from : (b : Books) (bs : List Balance) (f : Fact) (full : Bool) → ful
     → full ≡ list_any is_past (made_by (sum_in b).parts f)
 past_from b bs f full is held =
     is ∙ ap (list_any (is_full f)) (streams_held b bs held) ∙ sym (past_is_full b.store_id f (sum_in b).parts.streams)
+
+-- the streams that a fact tells are those of the streams that are held
+pub told_held : (b : Books) (bs : List Balance) (a : Addressed) → map owing_in bs ≡ b.owings → IsAddressedIn (sum_in b).parts a
+    → IsAddressed (map books.stream_in (map owing_in bs)) a
+told_held b bs a held is =
+    is ∙ ap (map (is_told a.fact)) (book_streams b.store_id b.published b.owings ∙ ap (map books.stream_in) (sym held))

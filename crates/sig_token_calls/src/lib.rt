@@ -2,8 +2,8 @@
 //! 1.0, sections 8.1.4 and 8.1.5).
 //!
 //! It stands on `sig_ledger` for the state, and on `sig_calls` for how each call is answered: one file a call, and each public
-//! function answers by its line of that table. Each call whose fact makes tokens answers by `make`: none of the tokens may be
-//! too long, and then no number too great.
+//! function answers by its line of that table. Each call whose fact makes tokens answers by `make`: the streams that the fact
+//! tells are found once, none of their tokens may be too long, and then no number too great.
 //!
 //! Promised: a call changes no book, answers by the table, and holds room for the fact that it makes. The size that is told is
 //! that of the largest payload that the fact would make; a number is too great exactly where a token would get one above 2^62.

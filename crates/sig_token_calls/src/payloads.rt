@@ -1,19 +1,21 @@
 //! The sizes of the payloads that a fact would make.
 
-ghost use Rattle.std.specs.Prelude.{◌≡◌, ◌∷◌, [], All, IfOk, Some, map, max};
+ghost use Rattle.std.specs.Prelude.{◌≡◌, ◌+◌, ◌∷◌, [], All, IfOk, Some, map, max};
 ghost use Rattle.sig_history.specs.Facts.{made_by, said_by};
 ghost use Rattle.sig_history.specs.Sound.{largest};
+ghost use Rattle.sig_accounts.specs.Owings.{owing_in, stream_in};
+ghost use Rattle.sig_accounts.specs.Telling.{IsAddressed};
 ghost use Rattle.sig_ledger.specs.Books.{sum_in};
+ghost use Rattle.sig_ledger.specs.Room.{IsAddressedIn};
 ghost use Rattle.sig_token_calls.specs.Sizes as bytes;
-ghost use Rattle.sig_token_calls.specs.Sizes.{most_on, shared_bytes, size_on};
+ghost use Rattle.sig_token_calls.specs.Sizes.{most_on, own_bytes, shared_bytes};
 ghost use Rattle.sig_token_calls.specs.Tokens.{IsNumbered, stream_of};
 
 use crate::sizes::{joined, own_size};
 use sig_event::{Claims, Event, News};
 use sig_json::{Items, Memory, Text};
-use sig_ledger::{Account, Ledger, jti_text, news_of, time_of};
+use sig_ledger::{Account, Addressed, Ledger, jti_text, news_of, time_of};
 use sig_set::payload_text;
-use sig_terms::Fact;
 use std::alloc::Global;
 
 fn one_event(alloc: Global, event: Event) -> Result<Items<Event>, Memory>
@@ -50,14 +52,11 @@ fn shared_size(alloc: Global, store_id: [u8; 16], time: u64, news: News) -> Resu
     Ok(payload.as_slice().len())
 }
 
-// The bytes of the payload of the token that a stream would get, 0 where it would get none.
-fn payload_size(account: &Account, fact: &Fact, shared: usize) -> Result<usize, Memory>
+// The bytes of the payload of a stream's next token.
+fn payload_size(account: &Account, shared: usize) -> Result<usize, Memory>
     requires { IsNumbered account.now }
-    ensures { IfOk result (λ n. n ≡ size_on shared fact.now account.now.owing.stream) }
+    ensures { IfOk result (λ n. n ≡ shared + own_bytes account.now.owing.stream.conf (account.now.owing.stream.made + 1)) }
 {
-    if !account.is_told(fact) {
-        return Ok(0);
-    }
     let own = own_size(account.conf(), account.made() + 1)?;
     joined(shared, own)
 }
@@ -69,33 +68,39 @@ fn larger(a: usize, b: usize) -> usize
 }
 
 // The bytes of the largest payload of the tokens that these streams would get.
-fn largest_on(accounts: &[Account], fact: &Fact, shared: usize) -> Result<usize, Memory>
-    requires { All IsNumbered accounts.now }
-    ensures { IfOk result (λ n. n ≡ most_on shared fact.now (map stream_of accounts.now)) }
+fn largest_on(accounts: &[Account], addressed: &Addressed, shared: usize) -> Result<usize, Memory>
+    requires numbers { All IsNumbered accounts.now }
+    requires told { IsAddressed (map stream_in (map owing_in accounts.now)) addressed.now }
+    ensures { IfOk result (λ n. n ≡ most_on shared addressed.now.fact (map stream_of accounts.now)) }
 {
     let mut most = 0;
-    for account in accounts {
-        let size = payload_size(account, fact, shared)?;
-        most = larger(most, size);
+    for (place, account) in accounts.iter().enumerate() {
+        if addressed.tells(place) {
+            let size = payload_size(account, shared)?;
+            most = larger(most, size);
+        }
     }
     Ok(most)
 }
 
 // The bytes of the largest payload of the tokens that tell news.
-fn largest_told(ledger: &Ledger, fact: &Fact, news: News) -> Result<usize, Memory>
-    requires { said_by fact.now ≡ Some news }
-    ensures { IfOk result (λ n. n ≡ largest (made_by (sum_in ledger.now.books).parts fact.now)) }
+fn largest_told(ledger: &Ledger, addressed: &Addressed, news: News) -> Result<usize, Memory>
+    requires news { said_by addressed.now.fact ≡ Some news }
+    requires told { IsAddressedIn (sum_in ledger.now.books).parts addressed.now }
+    ensures { IfOk result (λ n. n ≡ largest (made_by (sum_in ledger.now.books).parts addressed.now.fact)) }
 {
-    let shared = shared_size(ledger.alloc(), ledger.store_id(), time_of(fact), news)?;
-    largest_on(ledger.accounts(), fact, shared)
+    let time = time_of(addressed.fact());
+    let shared = shared_size(ledger.alloc(), ledger.store_id(), time, news)?;
+    largest_on(ledger.accounts(), addressed, shared)
 }
 
 /// The bytes of the largest payload of the tokens that a fact would make, 0 where it would make none.
-pub fn largest_payload(ledger: &Ledger, fact: &Fact) -> Result<usize, Memory>
-    ensures { IfOk result (λ n. n ≡ largest (made_by (sum_in ledger.now.books).parts fact.now)) }
+pub fn largest_payload(ledger: &Ledger, addressed: &Addressed) -> Result<usize, Memory>
+    requires { IsAddressedIn (sum_in ledger.now.books).parts addressed.now }
+    ensures { IfOk result (λ n. n ≡ largest (made_by (sum_in ledger.now.books).parts addressed.now.fact)) }
 {
-    match news_of(ledger.alloc(), fact)? {
+    match news_of(ledger.alloc(), addressed.fact())? {
         None => Ok(0),
-        Some(news) => largest_told(ledger, fact, news),
+        Some(news) => largest_told(ledger, addressed, news),
     }
 }

@@ -11,7 +11,7 @@ ghost use Rattle.sig_ledger.specs.Room.{HasRoom};
 ghost use Rattle.sig_ledger.specs.Steps.{reply_in};
 ghost use Rattle.sig_token_calls.specs.Replies.{later_answer};
 
-use crate::make;
+use crate::making::make_told;
 use sig_event::{News, event_text};
 use sig_json::{Memory, Text};
 use sig_ledger::{Ledger, Publication, Step};
@@ -70,12 +70,13 @@ fn publish_first(
     ensures room { IfOk result (λ step. IfSome step.change (HasRoom (sum_in ledger.new.books).parts ledger.new.room)) }
 {
     let fact = published_fact(ledger.alloc(), id, news, now)?;
-    let tokens = ledger.issued_of(&fact)?;
+    let addressed = ledger.address(fact)?;
+    let tokens = ledger.issued_of(&addressed)?;
     let answer = Answer::Published {
         store_id: ledger.store_id(),
         tokens,
     };
-    make(ledger, answer, fact)
+    make_told(ledger, answer, addressed)
 }
 
 /// How a publication is answered: the first answer again where its name was used for the same.

@@ -174,9 +174,9 @@ impl Ledger {
         requires room { HasRoom (sum_in self.old.books).parts self.old.room (record { fact = Published id news time; spare = spare }) }
         ensures { sum_in self.new.books ≡ sum_of (sum_in self.old.books) (Published id news time ∷ []) }
     {
-        let (key, issued) = spare.into_tokens();
+        let (key, issued, told) = spare.into_tokens();
         let place = self.published.len();
-        hear_all(self.accounts.as_mut_slice(), &news, time, place);
+        hear_all(self.accounts.as_mut_slice(), &told, time, place);
         enter_place(&mut self.places, key, place);
         // There is room, so the push keeps the publication.
         let _ = self.published.push(Publication::of(id, news, issued));

@@ -1,6 +1,6 @@
 //! What a fact needs to be taken in, made ready.
 
-ghost use Rattle.std.specs.Prelude.{◌≡◌, ◌<◌, IfOk, IfSome, OnOk, ℕ, map, nat_eq};
+ghost use Rattle.std.specs.Prelude.{◌≡◌, ◌<◌, IfOk, IfSome, OnOk, Some, ℕ, map, nat_eq};
 ghost use Rattle.indexmap.specs.IndexSet.{contains};
 ghost use Rattle.sig_history.specs.Owed.{names_number};
 
@@ -9,8 +9,8 @@ use crate::prepared::{Prepared, Spare};
 use crate::step::Step;
 use indexmap::IndexSet;
 use sig_accounts::{
-    KeptToken, SharedName, client_in, issued_on, reserve_place, reserve_subjects, reserve_tokens,
-    tokens_issued,
+    Addressed, KeptToken, SharedName, addressed_to, client_in, issued_on, reserve_place,
+    reserve_subjects, reserve_tokens, tokens_issued,
 };
 use sig_json::{Items, Memory, Text, copy_optional};
 use sig_terms::{Answer, Fact, Issued, SettledItem};
@@ -20,48 +20,62 @@ impl Ledger {
     ghost use Rattle.sig_history.specs.Facts.{made_by};
     ghost use Rattle.sig_history.specs.Streams.{issued_of};
     ghost use Rattle.sig_ledger.specs.Books.{sum_in};
-    ghost use Rattle.sig_ledger.specs.Room.{HasOwnSpace, HasRoom, HaveRoom, IsSpare};
+    ghost use Rattle.sig_ledger.specs.Room.{HasOwnSpace, HasRoom, HaveRoom, IsAddressedIn, IsSpare};
     ghost use Rattle.sig_history.specs.Facts.{is_told};
     ghost use Rattle.sig_ledger.specs.Steps.{reply_in};
 
-    /// The tokens that a fact makes, by stream and number, each with a text of its own.
-    pub fn issued_of(&self, fact: &Fact) -> Result<Items<Issued>, Memory>
-        ensures { IfOk result (λ items. items ≡ map issued_of (made_by (sum_in self.now.books).parts fact.now)) }
+    /// A fact, with the streams that it tells something. Each stream is asked once.
+    pub fn address(&self, fact: Fact) -> Result<Addressed, Memory>
+        ensures fact { IfOk result (λ a. a.fact ≡ fact) }
+        ensures told { IfOk result (IsAddressedIn (sum_in self.now.books).parts) }
     {
-        let kept = self.kept_of(fact)?;
+        addressed_to(self.alloc, self.accounts.as_slice(), fact)
+    }
+
+    /// The tokens that a fact makes, by stream and number, each with a text of its own.
+    pub fn issued_of(&self, addressed: &Addressed) -> Result<Items<Issued>, Memory>
+        requires { IsAddressedIn (sum_in self.now.books).parts addressed.now }
+        ensures { IfOk result (λ items. items ≡ map issued_of (made_by (sum_in self.now.books).parts addressed.now.fact)) }
+    {
+        let kept = self.kept_of(addressed)?;
         tokens_issued(self.alloc, &kept)
     }
 
     // The tokens that a fact makes, as they are kept of a publication.
-    fn kept_of(&self, fact: &Fact) -> Result<Items<KeptToken>, Memory>
-        ensures { IfOk result (λ items. items ≡ map issued_of (made_by (sum_in self.now.books).parts fact.now)) }
+    fn kept_of(&self, addressed: &Addressed) -> Result<Items<KeptToken>, Memory>
+        requires { IsAddressedIn (sum_in self.now.books).parts addressed.now }
+        ensures { IfOk result (λ items. items ≡ map issued_of (made_by (sum_in self.now.books).parts addressed.now.fact)) }
     {
-        issued_on(self.alloc, self.accounts.as_slice(), fact)
+        issued_on(self.alloc, self.accounts.as_slice(), addressed)
     }
 
     /// A fact with what is kept beside it, and room for it.
-    pub fn ready(&mut self, fact: Fact) -> Result<Prepared, Memory>
+    pub fn ready(&mut self, addressed: Addressed) -> Result<Prepared, Memory>
+        requires { IsAddressedIn (sum_in self.old.books).parts addressed }
         ensures keeps { self.new.books ≡ self.old.books }
-        ensures fact { IfOk result (λ p. p.fact ≡ fact) }
+        ensures fact { IfOk result (λ p. p.fact ≡ addressed.fact) }
         ensures room { IfOk result (HasRoom (sum_in self.new.books).parts self.new.room) }
     {
-        match self.room_for(&fact) {
-            Ok(spare) => Ok(Prepared::of(fact, spare)),
+        match self.room_for(&addressed) {
+            Ok(spare) => Ok(Prepared::of(addressed, spare)),
             Err(Memory) => {
-                drop(fact);
+                drop(addressed);
                 Err(Memory)
             }
         }
     }
 
-    // Room for a fact, and what is kept beside it.
-    fn room_for(&mut self, fact: &Fact) -> Result<Spare, Memory>
+    // Room for a fact, and what is kept beside it but for the streams that it tells.
+    fn room_for(&mut self, addressed: &Addressed) -> Result<Spare, Memory>
+        requires { IsAddressedIn (sum_in self.old.books).parts addressed.now }
         ensures keeps { self.new.books ≡ self.old.books }
-        ensures room { IfOk result (λ spare. HasRoom (sum_in self.new.books).parts self.new.room (record { fact = fact.now; spare = spare })) }
+        ensures spare { IfOk result (IsSpare (sum_in self.new.books).parts addressed.now.fact) }
+        ensures tokens { OnOk result (HaveRoom (is_told addressed.now.fact) (sum_in self.new.books).parts.streams self.new.room.tokens) }
+        ensures space { OnOk result (HasOwnSpace (sum_in self.new.books).parts self.new.room addressed.now.fact) }
     {
-        let spare = self.spare_for(fact)?;
-        self.reserve_tokens(fact)?;
-        self.reserve_own(fact)?;
+        let spare = self.spare_for(addressed)?;
+        self.reserve_tokens(addressed)?;
+        self.reserve_own(addressed.fact())?;
         Ok(spare)
     }
 
@@ -74,21 +88,33 @@ impl Ledger {
         match fact {
             None => Ok(Step::only(answer)),
             Some(fact) => {
-                let change = self.ready(fact)?;
-                Ok(Step {
-                    answer,
-                    change: Some(change),
-                })
+                let addressed = self.address(fact)?;
+                self.step_with(answer, addressed)
             }
         }
     }
 
+    /// A step of this answer and this fact, with room for it.
+    pub fn step_with(&mut self, answer: Answer, addressed: Addressed) -> Result<Step, Memory>
+        requires { IsAddressedIn (sum_in self.old.books).parts addressed }
+        ensures keeps { self.new.books ≡ self.old.books }
+        ensures reply { IfOk result (λ s. reply_in s ≡ record { answer = answer; change = Some addressed.fact }) }
+        ensures room { IfOk result (λ s. IfSome s.change (HasRoom (sum_in self.new.books).parts self.new.room)) }
+    {
+        let change = self.ready(addressed)?;
+        Ok(Step {
+            answer,
+            change: Some(change),
+        })
+    }
+
     // What is kept of a fact beside itself.
-    fn spare_for(&self, fact: &Fact) -> Result<Spare, Memory>
-        ensures { IfOk result (IsSpare (sum_in self.now.books).parts fact.now) }
+    fn spare_for(&self, addressed: &Addressed) -> Result<Spare, Memory>
+        requires { IsAddressedIn (sum_in self.now.books).parts addressed.now }
+        ensures { IfOk result (IsSpare (sum_in self.now.books).parts addressed.now.fact) }
     {
         let alloc = self.alloc;
-        match fact {
+        match addressed.fact() {
             Fact::Created { conf, .. } => {
                 let client = Text::of(alloc, client_in(conf.stream.as_str()))?;
                 let name = SharedName::of(alloc, conf.stream.copy(alloc)?)?;
@@ -100,7 +126,7 @@ impl Ledger {
             }
             Fact::Published { id, .. } => {
                 let id = id.copy(alloc)?;
-                let issued = self.kept_of(fact)?;
+                let issued = self.kept_of(addressed)?;
                 Ok(Spare::for_tokens(alloc, id, issued))
             }
             Fact::Settled { items, .. } => {
@@ -112,11 +138,12 @@ impl Ledger {
     }
 
     // Room for one more token on each stream that a fact tells something.
-    fn reserve_tokens(&mut self, fact: &Fact) -> Result<(), Memory>
+    fn reserve_tokens(&mut self, addressed: &Addressed) -> Result<(), Memory>
+        requires { IsAddressedIn (sum_in self.old.books).parts addressed.now }
         ensures books { self.new.books ≡ self.old.books }
-        ensures tokens { OnOk result (HaveRoom (is_told fact.now) (sum_in self.new.books).parts.streams self.new.room.tokens) }
+        ensures tokens { OnOk result (HaveRoom (is_told addressed.now.fact) (sum_in self.new.books).parts.streams self.new.room.tokens) }
     {
-        reserve_tokens(self.accounts.as_mut_slice(), fact)
+        reserve_tokens(self.accounts.as_mut_slice(), addressed)
     }
 
     // Room for what a fact brings beside tokens; one that brings such tells nothing that needs more room.

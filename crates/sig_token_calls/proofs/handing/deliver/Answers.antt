@@ -1,4 +1,4 @@
-use Rattle.std.proofs.Common.{◌≡◌, ◌∙◌, ap, sym, ℕ, List, None, Some, Ok}
+use Rattle.std.proofs.Common.{◌∙◌, ap, sym, ℕ, List, None, Ok}
 use Rattle.sig_terms.specs.declared.answer.Answer.TheVariants as answer
 use Rattle.sig_accounts.specs.Owings.{owing_named}
 use Rattle.sig_token_calls.proofs.MakingLemmas.{only_reply}

@@ -1,4 +1,4 @@
-use Rattle.std.proofs.Common.{◌≡◌, ◌∙◌, ap, sym, ℕ, ◌+◌, ◌≤◌, List, [], ◌++◌, Bool, true, false, ◌||◌, Global, Vec, append-nil, bytes_eq, drop, get_or, length, min, refl, subst, take, arith}
+use Rattle.std.proofs.Common.{◌≡◌, ◌∙◌, ap, sym, ℕ, ◌+◌, ◌≤◌, List, ◌++◌, Bool, false, ◌||◌, Global, Vec, append-nil, bytes_eq, drop, get_or, length, min, refl, subst, take, arith}
 use Rattle.std.specs.Prelude.{flat_map}
 use Rattle.std.proofs.lemmas.List.{drop_all, length-take, take_all}
 use Rattle.indexmap.specs.IndexSet.{contains}

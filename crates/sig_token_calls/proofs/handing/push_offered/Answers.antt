@@ -1,4 +1,4 @@
-use Rattle.std.proofs.Common.{◌≡◌, ◌∙◌, ap, sym, ℕ, ◌-◌, List, ◌++◌, arith}
+use Rattle.std.proofs.Common.{◌∙◌, ap, sym, ◌-◌, List, ◌++◌, arith}
 use Rattle.sig_json.specs.declared.limits.TheConstants.{TOKENS_PER_PAGE}
 use Rattle.sig_terms.specs.declared.token.Token.{Token}
 use Rattle.sig_calls.specs.Handing.{pushed_by}

@@ -1,6 +1,5 @@
 use Rattle.std.proofs.Common.{◌≡◌, ◌∙◌, ap, sym, subst, ℕ, List, [], map, take, length, All}
 use Rattle.sig_history.specs.Streams.{Publication, Stream, token_of, Made}
-use Rattle.sig_terms.specs.declared.token.Token.{Token}
 use Rattle.sig_calls.specs.Handing.{pushed_by}
 use Rattle.sig_accounts.specs.declared.debt.Debt.{Debt}
 use Rattle.sig_accounts.specs.Owings.{IsPlaced, Owing, made_of, owing_named}

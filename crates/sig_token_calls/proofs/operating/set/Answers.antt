@@ -1,7 +1,6 @@
-use Rattle.std.proofs.Common.{◌≡◌, ◌∙◌, ap, subst, Some}
+use Rattle.std.proofs.Common.{◌∙◌, ap, subst, Some}
 use Rattle.sig_json.specs.Answers.{Answers, result_map}
 use Rattle.sig_terms.specs.declared.answer.Answer.{Answer}
-use Rattle.sig_terms.specs.declared.fact.Fact.{Fact}
 use Rattle.sig_terms.specs.declared.answer.Answer.TheVariants as answer
 use Rattle.sig_terms.specs.declared.fault.PrepareFault.TheVariants.{Memory}
 use Rattle.sig_history.specs.Streams.{Parts}

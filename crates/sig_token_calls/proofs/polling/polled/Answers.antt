@@ -1,4 +1,4 @@
-use Rattle.std.proofs.Common.{◌≡◌, ◌∙◌, ap, sym, subst, ℕ, List, length, All, Ok}
+use Rattle.std.proofs.Common.{◌∙◌, ap, sym, subst, ℕ, List, length, All, Ok}
 use Rattle.sig_history.specs.Streams.{Publication}
 use Rattle.sig_accounts.specs.declared.debt.Debt.{Debt}
 use Rattle.sig_accounts.specs.Owings.{IsPlaced, Owing}

@@ -1,4 +1,4 @@
-use Rattle.std.proofs.Common.{◌≡◌, ◌∙◌, ap, sym, ℕ, List, Option, None, Ok}
+use Rattle.std.proofs.Common.{◌∙◌, ap, sym, ℕ, List, Option, None, Ok}
 use Rattle.sig_terms.specs.declared.answer.Answer.{Answer}
 use Rattle.sig_history.specs.Streams.{Parts, Publication}
 use Rattle.sig_calls.specs.Publishing.{published_after}

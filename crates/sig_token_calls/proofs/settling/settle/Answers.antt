@@ -1,4 +1,4 @@
-use Rattle.std.proofs.Common.{◌≡◌, ◌∙◌, ap, sym, Ok}
+use Rattle.std.proofs.Common.{◌∙◌, ap, sym, Ok}
 use Rattle.sig_token_calls.specs.Replies.{told_as}
 use Rattle.sig_token_calls.specs.declared.reply.Reply.{Reply}
 use Rattle.sig_token_calls.proofs.SettlingLemmas.{settled_reply}

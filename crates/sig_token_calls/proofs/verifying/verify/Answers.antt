@@ -1,4 +1,4 @@
-use Rattle.std.proofs.Common.{◌≡◌, ◌∙◌, ap, sym, subst, ℕ, ◌+◌, ◌≤◌, None, Some, Result, Ok, arith}
+use Rattle.std.proofs.Common.{◌∙◌, ap, sym, subst, ℕ, ◌+◌, ◌≤◌, Result, Ok, arith}
 use Rattle.sig_json.specs.Answers.{Answers, result_map}
 use Rattle.sig_json.specs.declared.limits.TheConstants.{LAST_NUMBER}
 use Rattle.sig_terms.specs.declared.answer.Answer.TheVariants as answer

@@ -20,7 +20,7 @@ take_stream-requires-clause-room c = λ time.
     let held : HasRoom (sum_in c.args.self.now.books).parts c.args.self.now.room (record { fact = Created c.in-Created.conf c.in-Created.time; spare = c.into_parts-fact.result.1 }) =
     subst (λ (s : Spare). HasRoom (sum_in c.args.self.now.books).parts c.args.self.now.room (record { fact = Created c.in-Created.conf c.in-Created.time; spare = s }))
     (sym c.into_parts-fact.ensures.spare) made in
-    record { spare = held.spare; tokens = held.tokens; space = held.space }
+    record { spare = held.spare; told = held.told; tokens = held.tokens; space = held.space }
 
 pub set_status-requires-clause-room : goal.set_status-requires-clause-room
 set_status-requires-clause-room c = λ some.

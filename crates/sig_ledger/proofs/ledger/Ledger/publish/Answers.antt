@@ -1,9 +1,10 @@
-use Rattle.std.proofs.Common.{◌≡◌, ◌∙◌, ap, sym, subst, List, ℕ, ◌<◌, [], ◌∷◌, ◌++◌, map, length, take, drop, arith, All, IsOk, bytes_eq, if◌then◌else◌}
+use Rattle.std.proofs.Common.{◌≡◌, ◌∙◌, ap, sym, subst, List, ℕ, ◌<◌, [], ◌∷◌, ◌++◌, Bool, map, length, take, drop, arith, All, IsOk, bytes_eq, if◌then◌else◌}
 use Rattle.std.specs.Prelude.{vec_len, vec_capacity}
+use Rattle.sig_event.specs.declared.news.News.{News}
 use Rattle.sig_terms.specs.declared.fact.Fact.{Fact}
 use Rattle.sig_terms.specs.declared.fact.Fact.TheVariants.{Published}
 use Rattle.sig_terms.specs.declared.token.Issued.{Issued}
-use Rattle.sig_history.specs.Streams.{Stream, Publication, is_due, issued_of}
+use Rattle.sig_history.specs.Streams.{Stream, Count, Publication, is_due, issued_of}
 use Rattle.sig_history.specs.Facts.{made_by}
 use Rattle.sig_history.specs.Owed.{sum_of}
 use Rattle.sig_history.specs.Sound.{Fits}
@@ -23,13 +24,25 @@ use Rattle.sig_ledger.proofs.RoomLemmas.{refilled, rooms_held, tops_below}
 use Rattle.sig_ledger.proofs.TakenBooks.{MayTake, taken, taken_kept, taken_sum}
 use Rattle.sig_ledger.proofs.ledger.Ledger.publish.Goals as goal
 
+-- the streams that are told are those on which the news are due
+due_told : (sid : List ℕ) (bs slice : List Balance) (created : List Count) (published : List Publication) (ss : List Stream) (n : News) (told : List Bool)
+    → (sum_in (books_in sid bs created published)).parts.streams ≡ ss → slice ≡ bs → told ≡ map (is_due n) ss
+    → told ≡ map (is_due n) (map stream_in (map owing_in slice))
+due_told sid bs slice created published ss n told same held is =
+    is ∙ ap (map (is_due n)) (sym same ∙ book_streams sid published (map owing_in bs))
+    ∙ ap (λ (l : List Balance). map (is_due n) (map stream_in (map owing_in l))) (sym held)
+
 pub hear_all-requires-clause-rooms : goal.hear_all-requires-clause-rooms
 hear_all-requires-clause-rooms c =
     let items : List Balance = c.self.inside.accounts.items in
     let held : HaveRoom (is_due c.args.news) (map stream_in (map owing_in items)) (map room_in items) =
     subst (λ (ss : List Stream). HaveRoom (is_due c.args.news) ss (map room_in items)) (book_streams c.self.inside.store_id c.self.inside.published.items (map owing_in items))
-    (subst (λ (h : Held). HaveRoom (is_due c.args.news) (sum_in h.books).parts.streams h.room.tokens) (sym c.self.view_is) c.requires.room.tokens) in
-    subst (All (HasRoomFor (is_due c.args.news) room_in)) (sym c.as_mut_slice.ensures.value) (rooms_held (is_due c.args.news) room_in items held)
+    (subst (λ (h : Held). HaveRoom (is_due c.args.news) (sum_in h.books).parts.streams h.room.tokens) (sym c.self.view_is) c.requires.room.tokens) in (
+      is_due c.args.news,
+      due_told c.self.inside.store_id c.self.inside.accounts.items c.as_mut_slice.result.now c.self.inside.created.items c.self.inside.published.items (sum_in c.args.self.now.books).parts.streams c.args.news c.into_tokens-key.result.2
+          (ap (λ (h : Held). (sum_in h.books).parts.streams) c.self.view_is) c.as_mut_slice.ensures.value (c.into_tokens-key.ensures.told ∙ c.requires.room.told),
+      subst (All (HasRoomFor (is_due c.args.news) room_in)) (sym c.as_mut_slice.ensures.value) (rooms_held (is_due c.args.news) room_in items held),
+    )
 
 pub hear_all-requires-clause-numbers : goal.hear_all-requires-clause-numbers
 hear_all-requires-clause-numbers c =
@@ -42,25 +55,25 @@ enter_place-requires c =
     omega (arith, some, ap (λ (h : Held). h.room.ids) c.self.view_is)
 
 -- the books before, the fact, and what the tokens say
-abbrev before : goal.Joined-push → Books
+abbrev before : goal.After-drop-told-inside → Books
 before c = books_in c.self.inside.store_id c.self.inside.accounts.items c.self.inside.created.items c.self.inside.published.items
 
-abbrev told : goal.Joined-push → Fact
+abbrev told : goal.After-drop-told-inside → Fact
 told c = Published c.args.id c.args.news c.args.time
 
-abbrev says : goal.Joined-push → Said
+abbrev says : goal.After-drop-told-inside → Said
 says c = said.Published (length c.self.inside.published.items)
 
-abbrev new : goal.Joined-push → Publication
+abbrev new : goal.After-drop-told-inside → Publication
 new c = record { id = c.args.id; news = c.args.news; issued = map issued_of (made_by (sum_in (before c)).parts (told c)) }
 
-may : (c : goal.Joined-push) → MayTake (before c) (told c) (says c)
+may : (c : goal.After-drop-told-inside) → MayTake (before c) (told c) (says c)
 may c = may_publish (before c) c.args.id c.args.news c.args.time c.self.invariant.0 (subst (λ (h : Held). Fits (sum_in h.books) (told c)) (sym c.self.view_is) c.requires.fits)
 
-place : (c : goal.Joined-push) → c.len-place.result ≡ length c.self.inside.published.items
+place : (c : goal.After-drop-told-inside) → c.len-place.result ≡ length c.self.inside.published.items
 place c = omega (arith, c.len-place.ensures, c.self.inside.published.ok)
 
-kept : (c : goal.Joined-push) → c.push.new.self.items ≡ c.self.inside.published.items ++ new c ∷ []
+kept : (c : goal.After-drop-told-inside) → c.push.new.self.items ≡ c.self.inside.published.items ++ new c ∷ []
 kept c =
     let some : 0 < c.args.self.now.room.published = c.requires.room.space.0 in
     let room : vec_len c.self.inside.published < vec_capacity c.self.inside.published = omega (arith, some, ap (λ (h : Held). h.room.published) c.self.view_is) in
@@ -73,7 +86,7 @@ kept c =
     ∙ ap (λ (l : List Issued). c.self.inside.published.items ++ record { id = c.args.id; news = c.args.news; issued = l } ∷ []) issued
 
 -- the books then have the publication and its tokens
-published : (c : goal.Joined-push) → record {
+published : (c : goal.After-drop-told-inside) → record {
   store_id = c.self.inside.store_id;
   owings = map owing_in (take c.self.inside.accounts.len (c.hear_all.new.accounts ++ drop (length c.hear_all.new.accounts) c.self.inside.accounts.items));
   created = c.self.inside.created.items;
@@ -84,7 +97,8 @@ published c =
     let heard : map owing_in (take c.self.inside.accounts.len (c.hear_all.new.accounts ++ drop (length c.hear_all.new.accounts) c.self.inside.accounts.items))
     ≡ map (owing_after (told c) (says c)) (before c).owings =
     ap (map owing_in) (refilled c.self.inside.accounts.len c.hear_all.new.accounts c.self.inside.accounts.items (omega (arith, c.hear_all.auto.accounts, c.as_mut_slice.ensures.len)))
-    ∙ c.hear_all.ensures
+    ∙ c.hear_all.ensures c.args.news (due_told c.self.inside.store_id c.self.inside.accounts.items c.as_mut_slice.result.now c.self.inside.created.items c.self.inside.published.items (sum_in c.args.self.now.books).parts.streams c.args.news c.into_tokens-key.result.2
+    (ap (λ (h : Held). (sum_in h.books).parts.streams) c.self.view_is) c.as_mut_slice.ensures.value (c.into_tokens-key.ensures.told ∙ c.requires.room.told))
     ∙ ap (λ (bs : List Balance). map (owing_heard c.args.news c.args.time c.len-place.result) (map owing_in bs)) c.as_mut_slice.ensures.value
     ∙ ap (λ (n : ℕ). map (owing_heard c.args.news c.args.time n) (before c).owings) (place c)
     ∙ heard_all c.args.id c.args.news c.args.time (length c.self.inside.published.items) (before c).owings in
