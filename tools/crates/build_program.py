@@ -144,9 +144,16 @@ def give_up(name, said):
     os._exit(NOT_PROVED)
 
 
+def known_crate(rt, folder, known):
+    """A crate, once however often it is named or used: the kit adds to `known` those that a crate uses, and not the crate itself."""
+    if folder not in known:
+        known[folder] = rt.rtlib.Crate(folder, TOP, known)
+    return known[folder]
+
+
 def build_libraries(rt, names):
     known = {}
-    asked = [rt.rtlib.Crate(os.path.join(TOP, "crates", name), TOP, known) for name in names]
+    asked = [known_crate(rt, os.path.join(TOP, "crates", name), known) for name in names]
     crates = []
     for crate in asked:
         crates += [it for it in [*crate.below(), crate] if it not in crates and it.makes_rlib()]
