@@ -1,9 +1,8 @@
 -- A fetch within its rounds: those that were made, and however it goes on.
-use Rattle.std.proofs.Common.{◌≡◌, ◌∙◌, ap, sym, subst, refl, inl, inr, ℕ, suc, ◌+◌, ◌-◌, ◌≤◌, List, [], ◌∷◌, ◌++◌, append_assoc, append-nil, length, take, drop, Bool, true, false, All, Option, Some, None, IfOk, Result, Ok, Err, arith}
+use Rattle.std.proofs.Common.{◌≡◌, ◌∙◌, ap, sym, subst, refl, inl, inr, ℕ, suc, ◌+◌, List, [], ◌∷◌, ◌++◌, append_assoc, append-nil, length, Bool, true, false, All, Option, Some, None, IfOk, Result, Ok, Err, arith}
 use Rattle.std.specs.Prelude.{⊤}
 use Rattle.std.specs.Option.{option_to_list}
-use Rattle.std.proofs.Math.Seq.{drop-append_seam, take-length}
-use Rattle.std.proofs.lemmas.List.{length-append, length-drop}
+use Rattle.std.proofs.lemmas.List.{length-append}
 use Rattle.std.proofs.lemmas.List.Elements.{All-nil}
 use Rattle.sig_json.specs.Answers.{result_map}
 use Rattle.sig_links.specs.Told.{LinkPlan, Sent}
@@ -83,11 +82,7 @@ goes_from peer n left last h s a same none = record {
   all = λ rest end p. subst (λ (m : ℕ). Polls peer m [] rest end) same (subst (λ (l : List RxTurn). Polls peer left l rest end) none p);
 }
 
--- the turns of a round are those that the node has since
-since_round : {D : Type 0} (b c : NodeView D) (ts : List RxTurn) → c.turns ≡ b.turns ++ ts → drop (length b.turns) c.turns ≡ ts
-since_round b c ts is = ap (drop (length b.turns)) is ∙ drop-append_seam b.turns ts
-
-module _ {D : Type 0} (peer : Peer) (n left later count : ℕ) (last : List RxTurn) (h i j : Option (List LinkPlan)) (s t u : Option (List Sent)) (a b c : NodeView D) where
+module _ {D : Type 0} (peer : Peer) (n left later count : ℕ) (last : List RxTurn) (h i j : Option (List LinkPlan)) (s t u : Option (List Sent)) (before gathered : List RxTurn) (a b c : NodeView D) where
   -- the round at which it ends, if any was made
   ends_in : GoesOn peer n left count last h i s t a b → (o : Option Round) (rest : Result ℕ FetchFault)
       → Polls peer left last (option_to_list o) (result_map (λ made. tt) rest) → IfOk rest (λ made. made ≡ count + length (option_to_list o)) → Made peer (option_to_list o) i j t u b c
@@ -101,46 +96,46 @@ module _ {D : Type 0} (peer : Peer) (n left later count : ℕ) (last : List RxTu
       counted (Err fault) is = tt
 
   -- what was asked is what is asked after the last turns
-  as_asked : (ask : PollAsk) (end : Result Bool FetchFault) → ask ≡ ask_after last → Goes peer ask i j t u b c end → Goes peer (ask_after last) i j t u b c end
-  as_asked ask end is q = subst (λ (x : PollAsk). Goes peer x i j t u b c end) is q
+  as_asked : (ask : PollAsk) (end : Result Bool FetchFault) → ask ≡ ask_after last → Goes peer ask i j t u before gathered b c end → Goes peer (ask_after last) i j t u before gathered b c end
+  as_asked ask end is q = subst (λ (x : PollAsk). Goes peer x i j t u before gathered b c end) is q
 
   -- with a fault
-  pub goes_no_further : left ≡ suc later → GoesOn peer n left count last h i s t a b → (e : FetchFault) (ask : PollAsk) → ask ≡ ask_after last → Goes peer ask i j t u b c (Err e) → Fetches peer n h j s u a c (Err e)
+  pub goes_no_further : left ≡ suc later → GoesOn peer n left count last h i s t a b → (e : FetchFault) (ask : PollAsk) → ask ≡ ask_after last → Goes peer ask i j t u before gathered b c (Err e) → Fetches peer n h j s u a c (Err e)
   goes_no_further more g e ask asked went = finish (as_asked ask (Err e) asked went)
     where
       by : (o : Option Round) → IsRoundOrNone peer (ask_after last) o (Err e) → Polls peer (suc later) last (option_to_list o) (Err e)
       by None is = inr (let make : FetchFault → Result ⊤ FetchFault = λ x. Err x in let same : e ≡ Memory = cc in ap make same)
       by (Some r) is = (Err e, is, (refl, refl))
 
-      finish : Goes peer (ask_after last) i j t u b c (Err e) → Fetches peer n h j s u a c (Err e)
+      finish : Goes peer (ask_after last) i j t u before gathered b c (Err e) → Fetches peer n h j s u a c (Err e)
       finish q = ends_in g q.round (Err e) (subst (λ (m : ℕ). Polls peer m last (option_to_list q.round) (Err e)) (sym more) (by q.round q.is)) tt q.made
 
   none_is_fault : {T : Type 0} (listed : Bool) → ◌≡◌ {A = Result Bool FetchFault} (Ok listed) (Err Memory) → T
   none_is_fault listed is = absurd cc
 
   -- after a page that lists nothing
-  pub goes_to_the_last : left ≡ suc later → GoesOn peer n left count last h i s t a b → (ask : PollAsk) → ask ≡ ask_after last → (listed : Bool) → listed ≡ false → Goes peer ask i j t u b c (Ok listed)
-      → Fetches peer n h j s u a c (Ok (count + 1))
-  goes_to_the_last more g ask asked listed none went = finish (as_asked ask (Ok false) asked (subst (λ (x : Bool). Goes peer ask i j t u b c (Ok x)) none went))
+  pub goes_to_the_last : left ≡ suc later → GoesOn peer n left count last h i s t a b → (ask : PollAsk) → ask ≡ ask_after last → (listed : Bool) → listed ≡ false → Goes peer ask i j t u before gathered b c (Ok listed)
+      → (m : ℕ) → m ≡ count + 1 → Fetches peer n h j s u a c (Ok m)
+  goes_to_the_last more g ask asked listed none went m number =
+      subst (λ k. Fetches peer n h j s u a c (Ok k)) (sym number) (finish (as_asked ask (Ok false) asked (subst (λ (x : Bool). Goes peer ask i j t u before gathered b c (Ok x)) none went)))
     where
       by : (o : Option Round) → IsRoundOrNone peer (ask_after last) o (Ok false) → Made peer (option_to_list o) i j t u b c → Fetches peer n h j s u a c (Ok (count + 1))
       by None is made = none_is_fault false is
       by (Some r) is made = ends_in g (Some r) (Ok (count + 1)) (subst (λ (m : ℕ). Polls peer m last (r ∷ []) (Ok tt)) (sym more) (Ok false, is, (refl, refl))) refl made
 
-      finish : Goes peer (ask_after last) i j t u b c (Ok false) → Fetches peer n h j s u a c (Ok (count + 1))
+      finish : Goes peer (ask_after last) i j t u before gathered b c (Ok false) → Fetches peer n h j s u a c (Ok (count + 1))
       finish q = by q.round q.is q.made
 
-  -- after another
-  pub goes_next : left ≡ suc later → GoesOn peer n left count last h i s t a b → (ask : PollAsk) → ask ≡ ask_after last → (listed : Bool) → listed ≡ true → Goes peer ask i j t u b c (Ok listed)
-      → (from : ℕ) → from ≡ length b.turns → GoesOn peer n later (count + 1) (drop from c.turns) h j s u a c
-  goes_next more g ask asked listed some went from at =
-      subst (λ (m : ℕ). GoesOn peer n later (count + 1) (drop m c.turns) h j s u a c) (sym at)
-      (finish (as_asked ask (Ok true) asked (subst (λ (x : Bool). Goes peer ask i j t u b c (Ok x)) some went)))
+  -- after another, whose turns alone were gathered
+  pub goes_next : left ≡ suc later → GoesOn peer n left count last h i s t a b → (ask : PollAsk) → ask ≡ ask_after last → (listed : Bool) → listed ≡ true → before ≡ [] → Goes peer ask i j t u before gathered b c (Ok listed)
+      → GoesOn peer n later (count + 1) gathered h j s u a c
+  goes_next more g ask asked listed some none went = finish (as_asked ask (Ok true) asked (subst (λ (x : Bool). Goes peer ask i j t u before gathered b c (Ok x)) some went))
     where
-      by : (o : Option Round) → IsRoundOrNone peer (ask_after last) o (Ok true) → Made peer (option_to_list o) i j t u b c → GoesOn peer n later (count + 1) (drop (length b.turns) c.turns) h j s u a c
-      by None is made = none_is_fault true is
-      by (Some r) is made =
-          let turns : drop (length b.turns) c.turns ≡ r.turns = since_round b c r.turns (made.grows.turns ∙ ap (λ (l : List RxTurn). b.turns ++ l) (append-nil r.turns)) in
+      by : (o : Option Round) → IsRoundOrNone peer (ask_after last) o (Ok true) → Made peer (option_to_list o) i j t u b c → gathered ≡ before ++ turns_of (option_to_list o)
+          → GoesOn peer n later (count + 1) gathered h j s u a c
+      by None is made gathers = none_is_fault true is
+      by (Some r) is made gathers =
+          let turns : gathered ≡ r.turns = gathers ∙ ap (λ (l : List RxTurn). l ++ turns_of (r ∷ [])) none ∙ append-nil r.turns in
           record {
             rounds = g.rounds ++ r ∷ [];
             number = length-append g.rounds (r ∷ []) ∙ ap (λ m. m + 1) g.number;
@@ -149,30 +144,26 @@ module _ {D : Type 0} (peer : Peer) (n left later count : ℕ) (last : List RxTu
                 (g.all (r ∷ rest) end (subst (λ (m : ℕ). Polls peer m last (r ∷ rest) end) (sym more) (Ok true, is, subst (λ (l : List RxTurn). Polls peer later l rest end) turns p)));
           }
 
-      finish : Goes peer (ask_after last) i j t u b c (Ok true) → GoesOn peer n later (count + 1) (drop (length b.turns) c.turns) h j s u a c
-      finish q = by q.round q.is q.made
+      finish : Goes peer (ask_after last) i j t u before gathered b c (Ok true) → GoesOn peer n later (count + 1) gathered h j s u a c
+      finish q = by q.round q.is q.made q.gathers
+
+-- the turns that were gathered in a round are those that the node has more
+pub gathers_more : {D : Type 0} (peer : Peer) (ask : PollAsk) (i j : Option (List LinkPlan)) (t u : Option (List Sent)) (before gathered : List RxTurn) (b c : NodeView D) (end : Result Bool FetchFault)
+    → before ≡ [] → Goes peer ask i j t u before gathered b c end → c.turns ≡ b.turns ++ gathered
+gathers_more peer ask i j t u before gathered b c end none q =
+    q.made.grows.turns ∙ ap (λ (l : List RxTurn). b.turns ++ l) (sym (q.gathers ∙ ap (λ (l : List RxTurn). l ++ turns_of (option_to_list q.round)) none))
 
 -- memory ran out before a round
 pub goes_starved : {D : Type 0} (peer : Peer) (n left count : ℕ) (last : List RxTurn) (h i : Option (List LinkPlan)) (s t : Option (List Sent)) (a b : NodeView D)
     → GoesOn peer n left count last h i s t a b → Fetches peer n h i s t a b (Err Memory)
 goes_starved peer n left count last h i s t a b g =
-    ends_in peer n left left count last h i i s t t a b b g None (Err Memory) (inr refl) tt (made_none peer i t b)
+    ends_in peer n left left count last h i i s t t [] [] a b b g None (Err Memory) (inr refl) tt (made_none peer i t b)
 
 -- all rounds were made
-pub goes_to_the_end : {D : Type 0} (peer : Peer) (n left count : ℕ) (last : List RxTurn) (h i : Option (List LinkPlan)) (s t : Option (List Sent)) (a b : NodeView D)
-    → left ≡ 0 → count ≡ n → GoesOn peer n left count last h i s t a b → Fetches peer n h i s t a b (Ok n)
-goes_to_the_end peer n left count last h i s t a b none all g =
-    ends_in peer n left left count last h i i s t t a b b g None (Ok n) (inl (none, refl)) (sym all ∙ sym zero_more) (made_none peer i t b)
+pub goes_to_the_end : {D : Type 0} (peer : Peer) (n left count m : ℕ) (last : List RxTurn) (h i : Option (List LinkPlan)) (s t : Option (List Sent)) (a b : NodeView D)
+    → left ≡ 0 → m ≡ count → GoesOn peer n left count last h i s t a b → Fetches peer n h i s t a b (Ok m)
+goes_to_the_end peer n left count m last h i s t a b none number g =
+    ends_in peer n left left count last h i i s t t [] [] a b b g None (Ok m) (inl (none, refl)) (number ∙ sym zero_more) (made_none peer i t b)
   where
     zero_more : count + 0 ≡ count
     zero_more = omega arith
-
--- a round leaves the node no fewer turns
-pub none_lost : {D : Type 0} (peer : Peer) (ask : PollAsk) (h i : Option (List LinkPlan)) (s t : Option (List Sent)) (a b : NodeView D) (end : Result Bool FetchFault) → Goes peer ask h i s t a b end → length a.turns ≤ length b.turns
-none_lost peer ask h i s t a b end g =
-    let more = turns_of (option_to_list g.round) in
-    omega (arith, ap length g.made.grows.turns ∙ length-append a.turns more)
-
--- the rest of a list, as a range to its end
-pub rest_is : {X : Type 0} (xs : List X) (i : ℕ) → take (length xs - i) (drop i xs) ≡ drop i xs
-rest_is xs i = ap (λ m. take m (drop i xs)) (sym (length-drop i xs)) ∙ take-length (drop i xs)

@@ -1,5 +1,5 @@
 -- One round: what was asked, read and taken.
-use Rattle.std.proofs.Common.{◌≡◌, ◌⊎◌, sym, subst, refl, inl, inr, ℕ, ◌==◌, List, [], ◌∷◌, append-nil, Bool, true, false, Option, Some, None, if◌then◌else◌, codes, Result, Ok, Err, is_ok, IsErrOf}
+use Rattle.std.proofs.Common.{◌≡◌, ◌⊎◌, ◌∙◌, ap, sym, subst, refl, inl, inr, ℕ, ◌==◌, List, [], ◌∷◌, ◌++◌, append-nil, Bool, true, false, Option, Some, None, if◌then◌else◌, codes, Result, Ok, Err, is_ok, IsErrOf}
 use Rattle.std.specs.Prelude.{⊤}
 use Rattle.sig_links.specs.Told.{LinkPlan, Sent}
 use Rattle.sig_outside.specs.declared.place.Place.{Place}
@@ -204,47 +204,52 @@ made_one peer ask answer turns ahead ahead' sent sent' old new a g =
     }
 
 -- memory ran out before the request
-pub goes_starved : {D : Type 0} (peer : Peer) (ask : PollAsk) (ahead : Option (List LinkPlan)) (sent : Option (List Sent)) (node : NodeView D) → Goes peer ask ahead ahead sent sent node node (Err faults.Memory)
-goes_starved peer ask ahead sent node = record {
+pub goes_starved : {D : Type 0} (peer : Peer) (ask : PollAsk) (ahead : Option (List LinkPlan)) (sent : Option (List Sent)) (before : List RxTurn) (node : NodeView D) → Goes peer ask ahead ahead sent sent before before node node (Err faults.Memory)
+goes_starved peer ask ahead sent before node = record {
   round = None;
   is = refl;
   made = record { sends = sends_none peer sent; hears = hears_none ahead; grows = grows_none node };
+  gathers = sym (append-nil before);
 }
 
 -- there was no page
-pub goes_unread : {D : Type 0} (peer : Peer) (ask : PollAsk) (answer : Result Response AskFault) (e : FetchFault) (ahead ahead' : Option (List LinkPlan)) (sent sent' : Option (List Sent)) (node : NodeView D)
-    → Asked peer ask answer ahead ahead' sent sent' → IsPage answer (Err e) → Goes peer ask ahead ahead' sent sent' node node (Err e)
-goes_unread peer ask answer e ahead ahead' sent sent' node a is = record {
+pub goes_unread : {D : Type 0} (peer : Peer) (ask : PollAsk) (answer : Result Response AskFault) (e : FetchFault) (ahead ahead' : Option (List LinkPlan)) (sent sent' : Option (List Sent)) (before : List RxTurn) (node : NodeView D)
+    → Asked peer ask answer ahead ahead' sent sent' → IsPage answer (Err e) → Goes peer ask ahead ahead' sent sent' before before node node (Err e)
+goes_unread peer ask answer e ahead ahead' sent sent' before node a is = record {
   round = Some (record { ask = ask; answer = answer; turns = [] });
   is = record { asks = refl; page = Err e; reads = is; takes = (refl, refl) };
   made = made_one peer ask answer [] ahead ahead' sent sent' node node a (grows_none node);
+  gathers = sym (append-nil before);
 }
 
 -- the node ended it within the page
-pub goes_halted : {D : Type 0} (peer : Peer) (ask : PollAsk) (answer : Result Response AskFault) (page : Sets) (e : FetchFault) (ahead ahead' : Option (List LinkPlan)) (sent sent' : Option (List Sent)) (old new : NodeView D)
-    → Asked peer ask answer ahead ahead' sent sent' → IsPage answer (Ok page) → Taken peer page.tokens old new (Err e) → Goes peer ask ahead ahead' sent sent' old new (Err e)
-goes_halted peer ask answer page e ahead ahead' sent sent' old new a is t = record {
+pub goes_halted : {D : Type 0} (peer : Peer) (ask : PollAsk) (answer : Result Response AskFault) (page : Sets) (e : FetchFault) (ahead ahead' : Option (List LinkPlan)) (sent sent' : Option (List Sent)) (before gathered : List RxTurn) (old new : NodeView D)
+    → Asked peer ask answer ahead ahead' sent sent' → IsPage answer (Ok page) → Taken peer page.tokens before gathered old new (Err e) → Goes peer ask ahead ahead' sent sent' before gathered old new (Err e)
+goes_halted peer ask answer page e ahead ahead' sent sent' before gathered old new a is t = record {
   round = Some (record { ask = ask; answer = answer; turns = t.turns });
   is = record { asks = refl; page = Ok page; reads = is; takes = (t.takes, tt) };
   made = made_one peer ask answer t.turns ahead ahead' sent sent' old new a t.grows;
+  gathers = t.gathers ∙ ap (λ (ts : List RxTurn). before ++ ts) (sym (append-nil t.turns));
 }
 
 -- all of the page was taken
-pub goes_whole : {D : Type 0} (peer : Peer) (ask : PollAsk) (answer : Result Response AskFault) (page : Sets) (listed : Bool) (ahead ahead' : Option (List LinkPlan)) (sent sent' : Option (List Sent)) (old new : NodeView D)
-    → Asked peer ask answer ahead ahead' sent sent' → IsPage answer (Ok page) → Taken peer page.tokens old new (Ok tt) → listed ≡ lists page.tokens → Goes peer ask ahead ahead' sent sent' old new (Ok listed)
-goes_whole peer ask answer page listed ahead ahead' sent sent' old new a is t says = record {
+pub goes_whole : {D : Type 0} (peer : Peer) (ask : PollAsk) (answer : Result Response AskFault) (page : Sets) (listed : Bool) (ahead ahead' : Option (List LinkPlan)) (sent sent' : Option (List Sent)) (before gathered : List RxTurn) (old new : NodeView D)
+    → Asked peer ask answer ahead ahead' sent sent' → IsPage answer (Ok page) → Taken peer page.tokens before gathered old new (Ok tt) → listed ≡ lists page.tokens
+    → Goes peer ask ahead ahead' sent sent' before gathered old new (Ok listed)
+goes_whole peer ask answer page listed ahead ahead' sent sent' before gathered old new a is t says = record {
   round = Some (record { ask = ask; answer = answer; turns = t.turns });
   is = record { asks = refl; page = Ok page; reads = is; takes = (t.takes, says) };
   made = made_one peer ask answer t.turns ahead ahead' sent sent' old new a t.grows;
+  gathers = t.gathers ∙ ap (λ (ts : List RxTurn). before ++ ts) (sym (append-nil t.turns));
 }
 
 -- and its fault isn't that a gateway was missing
 the_end : {e f : FetchFault} → ◌≡◌ {A = Result Bool FetchFault} (Err e) (Err f) → f ≡ e
 the_end h = cc
 
-pub goes_reached : {D : Type 0} (peer : Peer) (ask : PollAsk) (e : FetchFault) (ahead ahead' : Option (List LinkPlan)) (sent sent' : Option (List Sent)) (old new : NodeView D)
-    → Goes peer ask ahead ahead' sent sent' old new (Err e) → IsReached e
-goes_reached peer ask e ahead ahead' sent sent' old new g = by_round g.round g.is
+pub goes_reached : {D : Type 0} (peer : Peer) (ask : PollAsk) (e : FetchFault) (ahead ahead' : Option (List LinkPlan)) (sent sent' : Option (List Sent)) (before gathered : List RxTurn) (old new : NodeView D)
+    → Goes peer ask ahead ahead' sent sent' before gathered old new (Err e) → IsReached e
+goes_reached peer ask e ahead ahead' sent sent' before gathered old new g = by_round g.round g.is
   where
     by_page : (answer : Result Response AskFault) (turns : List RxTurn) (page : Result Sets FetchFault) → IsPage answer page → PagesTo peer page turns (Err e) → IsReached e
     by_page answer turns (Err f) is t = subst IsReached (the_end t.1) (page_reached answer f is)

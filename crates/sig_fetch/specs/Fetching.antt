@@ -1,5 +1,5 @@
 -- What a fetch does to the side and to the node, and what it answers (RFC 8936, sections 2.4 and 2.5).
-use Rattle.std.specs.Prelude.{◌≡◌, ◌⊎◌, ℕ, ◌+◌, List, [], Bool, true, false, length, count_by, is_some, All, Option, Some, None, IfOk, Result, Ok, Err, drop, ⊤}
+use Rattle.std.specs.Prelude.{◌≡◌, ◌⊎◌, ℕ, ◌+◌, List, [], ◌++◌, Bool, true, false, length, count_by, is_some, All, Option, Some, None, IfOk, Result, Ok, Err, drop, ⊤}
 use Rattle.std.specs.Option.{option_to_list}
 use Rattle.sig_json.specs.Answers.{result_map}
 use Rattle.sig_outside.specs.Causes.{Raised}
@@ -49,21 +49,24 @@ pub record Fetches {D : Type 0} (peer : Peer) (n : ℕ) (ahead ahead' : Option (
   pub made : Made peer rounds ahead ahead' sent sent' old new
   pub acknowledged : All (AcksStand peer new) rounds
 
--- these tokens were taken in turns that the node has more
-pub record Taken {D : Type 0} (peer : Peer) (tokens : List Listed) (old new : NodeView D) (end : Result ⊤ FetchFault) : Type 0 where
+-- these tokens were taken in turns that the node has more, and which stand after those that were gathered before
+pub record Taken {D : Type 0} (peer : Peer) (tokens : List Listed) (before gathered : List RxTurn) (old new : NodeView D) (end : Result ⊤ FetchFault) : Type 0 where
   pub turns : List RxTurn
   pub takes : Takes peer tokens turns end
   pub grows : Grows turns old new
+  pub gathers : gathered ≡ before ++ turns
 
--- the round that asks this, or none where memory ran out before its request, and what it did
+-- the round that asks this, or none where memory ran out before its request, what it did, and its turns after those that were
+-- gathered before
 abbrev pub IsRoundOrNone : Peer → PollAsk → Option Round → Result Bool FetchFault → Type 0
 IsRoundOrNone peer ask None end = end ≡ Err Memory
 IsRoundOrNone peer ask (Some r) end = IsRound peer ask r end
 
-pub record Goes {D : Type 0} (peer : Peer) (ask : PollAsk) (ahead ahead' : Option (List LinkPlan)) (sent sent' : Option (List Sent)) (old new : NodeView D) (end : Result Bool FetchFault) : Type 0 where
+pub record Goes {D : Type 0} (peer : Peer) (ask : PollAsk) (ahead ahead' : Option (List LinkPlan)) (sent sent' : Option (List Sent)) (before gathered : List RxTurn) (old new : NodeView D) (end : Result Bool FetchFault) : Type 0 where
   pub round : Option Round
   pub is : IsRoundOrNone peer ask round end
   pub made : Made peer (option_to_list round) ahead ahead' sent sent' old new
+  pub gathers : gathered ≡ before ++ turns_of (option_to_list round)
 
 -- ---- the side's count
 

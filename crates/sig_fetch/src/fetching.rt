@@ -10,7 +10,7 @@ ghost use Rattle.sig_fetch.specs.Turns.{Halts};
 ghost use Rattle.sig_fetch.specs.declared.fetched.Fetched.{Fetched};
 
 use crate::asking::{ask_after, place_of};
-use crate::counting::counted;
+use crate::counting::counted_on;
 use crate::rounding::round;
 use crate::{FetchFault, Fetched};
 use sig_links::Side;
@@ -55,13 +55,12 @@ pub fn fetch<D: Disk, S: Side>(
     let Some(place) = place_of(peer) else {
         return Err(FetchFault::NoGateway);
     };
-    let before = node.turns().len();
     let made = all_rounds(alloc, node, side, peer, place, rounds);
     holds(node);
-    Ok(counted(made?, &node.turns()[before..]))
+    made
 }
 
-// Makes so many rounds at most, each after the turns of the one before, and answers how many it made.
+// Makes so many rounds at most, each after the turns of the one before, and answers how many it made and what it counted.
 fn all_rounds<D: Disk, S: Side>(
     alloc: Global,
     node: &mut RxNode<D>,
@@ -69,23 +68,33 @@ fn all_rounds<D: Disk, S: Side>(
     peer: &Peer,
     place: &Place,
     rounds: u64,
-) -> Result<u64, FetchFault>
+) -> Result<Fetched, FetchFault>
     requires place { place_of peer.now ≡ Some place.now }
-    ensures fetches { Fetches peer.now rounds (S.view side.old).ahead (S.view side.new).ahead (S.view side.old).sent (S.view side.new).sent node.old node.new result }
+    ensures fetches { Fetches peer.now rounds (S.view side.old).ahead (S.view side.new).ahead (S.view side.old).sent (S.view side.new).sent node.old node.new (result_map (λ (f : Fetched). f.rounds) result) }
+    ensures tallies { IfOk result (Tallies node.old node.new) }
     ensures reached { result ≡ Err FetchFault.NoGateway → ⊥ }
     ensures halts { Halts D.told D.faults node.old node.new result }
     ensures counts { Counts (S.view side.old).faults (S.view side.new).faults result }
     ensures times { (S.view side.new).times ≡ (S.view side.old).times }
 {
-    let mut from = node.turns().len();
+    let mut fetched = Fetched {
+        rounds: 0,
+        accepted: 0,
+        seen: 0,
+        refused: 0,
+    };
+    // Those of the round before, which the next one tells of: no others are kept.
+    let mut turns = Vec::new(alloc);
     for made in 0..rounds {
-        let ask = ask_after(alloc, &node.turns()[from..])?;
-        from = node.turns().len();
-        if !round(alloc, node, side, peer, place, &ask)? {
-            return Ok(made + 1);
+        let ask = ask_after(alloc, turns.as_slice())?;
+        turns.clear();
+        let listed = round(alloc, node, side, peer, place, &ask, &mut turns)?;
+        fetched = counted_on(fetched, turns.as_slice(), made + 1, node.turn_count());
+        if !listed {
+            return Ok(fetched);
         }
     }
-    Ok(rounds)
+    Ok(fetched)
 }
 
 // What a node holds rests on what holds of every node.

@@ -12,7 +12,8 @@
 //! Promised: each round asks once, and tells what became of the tokens of the round before and of no others, so that each
 //! token is acknowledged or reported once, and acknowledged only where its pair of issuer and name is kept; each listed token
 //! is judged under its name and for the peer's issuer, in the order of the page; a response other than a page ends the fetch;
-//! and each fault has its cause. Left out: when a fetch is made.
+//! and each fault has its cause. The turns of one page are kept at a time, until the next poll tells of them. Left out: when a
+//! fetch is made.
 #![tactic(auto)]
 
 mod asking;

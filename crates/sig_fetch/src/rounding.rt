@@ -14,15 +14,15 @@ use sig_delivery::Listed;
 use sig_dial::ask;
 use sig_links::Side;
 use sig_outside::{Disk, Place};
-use sig_rxnode::{Peer, RxNode};
+use sig_rxnode::{Peer, RxNode, RxTurn};
 use sig_terms::PollAsk;
 use std::alloc::Global;
 
 // The kind of a poll's body (RFC 8936, section 2.4).
 const POLL_KIND: &str = "application/json";
 
-/// Makes one round: asks this over a link to this place, and takes what the page lists. It answers whether the page lists
-/// anything.
+/// Makes one round: asks this over a link to this place, takes what the page lists, and puts its turns last. It answers whether
+/// the page lists anything.
 pub fn round<D: Disk, S: Side>(
     alloc: Global,
     node: &mut RxNode<D>,
@@ -30,9 +30,10 @@ pub fn round<D: Disk, S: Side>(
     peer: &Peer,
     place: &Place,
     what: &PollAsk,
+    turns: &mut Vec<RxTurn>,
 ) -> Result<bool, FetchFault>
     requires place { asks.place_of peer.now ≡ Some place.now }
-    ensures goes { Goes peer.now what.now (S.view side.old).ahead (S.view side.new).ahead (S.view side.old).sent (S.view side.new).sent node.old node.new result }
+    ensures goes { Goes peer.now what.now (S.view side.old).ahead (S.view side.new).ahead (S.view side.old).sent (S.view side.new).sent turns.old.items turns.new.items node.old node.new result }
     ensures halts { Halts D.told D.faults node.old node.new result }
     ensures times { (S.view side.new).times ≡ (S.view side.old).times }
     ensures counts { Counts (S.view side.old).faults (S.view side.new).faults result }
@@ -42,7 +43,7 @@ pub fn round<D: Disk, S: Side>(
     let english = reports(what.errors.as_slice());
     let answer = ask(alloc, side, place, host, &request, POLL_KIND, english);
     let page = page_in(alloc, answer)?;
-    take_all(alloc, node, peer, page.tokens.as_slice())?;
+    take_all(alloc, node, peer, page.tokens.as_slice(), turns)?;
     Ok(lists(page.tokens.as_slice()))
 }
 

@@ -34,7 +34,7 @@ pub record MessageFigures : Type 0 where
 pub record LinkFigures : Type 0 where
   pub at_once : LINKS_AT_ONCE ≡ 64
   pub requests : REQUESTS_PER_LINK ≡ 16
-  pub watch : LINKS_PER_WATCH ≡ 1024
+  pub watch : LINKS_PER_WATCH ≡ 65536
   pub link : LINK_MILLISECONDS ≡ 60000
   pub request : REQUEST_MILLISECONDS ≡ 15000
   pub idle : IDLE_MILLISECONDS ≡ 15000

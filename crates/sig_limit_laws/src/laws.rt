@@ -10,7 +10,7 @@ pub fn messages_have_these_figures()
     ensures { MessageFigures }
 {}
 
-/// A server serves at most 64 links at a time, each with at most 16 requests, and a watch 1,024. A link lasts at most 60
+/// A server serves at most 64 links at a time, each with at most 16 requests, and a watch 65,536. A link lasts at most 60
 /// seconds; a request has to be there in 15, the next one to begin in 15, a read or a write to end in 30, a dialled link in 15,
 /// and a dial over at most four addresses in 5. One that is asked to end looks each 250 milliseconds and has 250 more; after
 /// the last response at most eight reads of 8,192 bytes wait 250 milliseconds each. One accept waits a second, and accepts that

@@ -2,7 +2,7 @@ ghost use Rattle.std.specs.Prelude.{◌≡◌, ℕ, List};
 
 use sig_json::Same;
 
-/// A turn that a node kept for a link.
+/// A turn that a node took for a link.
 pub trait LinkTurn: Same {
     ghost link_of: { Self → ℕ };
 

@@ -49,7 +49,7 @@ fn is_seen(node: &mut RxNode<MemDisk>, call: &RxCall) -> Result<bool, RxFault> {
 fn fails_twice(node: &mut RxNode<MemDisk>, first: Result<bool, RxFault>, call: &RxCall) -> bool {
     let second = is_seen(node, call);
     let fails = first == Err(RxFault::Store) && second == Err(RxFault::Store);
-    fails && node.broken_at() == Some(1) && node.turns().len() == 2
+    fails && node.broken_at() == Some(1) && node.turn_count() == 2
 }
 
 // How many tokens a node has at first, whether it has seen the one, and whether it breaks in the turn that asks.

@@ -74,7 +74,7 @@ fn fails_twice(alloc: Global, node: &mut TxNode<MemDisk>) -> bool {
 fn breaks(alloc: Global, node: &mut TxNode<MemDisk>) -> bool {
     let is_made = make(alloc, node).is_ok() && node.broken_at().is_none();
     let fails = fails_twice(alloc, node);
-    is_made && fails && node.broken_at() == Some(2) && node.turns().len() == 3
+    is_made && fails && node.broken_at() == Some(2) && node.turn_count() == 3
 }
 
 // How many records a node has at first, whether the stream stands then, and whether the node breaks after that.

@@ -1,4 +1,4 @@
-ghost use Rattle.std.specs.Prelude.{◌≡◌, ◌++◌, ◌∷◌, ◌<◌, [], length, OnOk};
+ghost use Rattle.std.specs.Prelude.{◌≡◌, ◌++◌, ◌∷◌, ◌+◌, ◌<◌, [], length, OnOk};
 
 use std::alloc::{AllocError, Global};
 use std::marker::Model;
@@ -51,5 +51,13 @@ impl<T> Past<T> {
         ensures { result ≡ length self.now.items }
     {
         self.snapshots.len()
+    }
+
+    /// The number of the next one, counted from 1, for which there is room.
+    pub fn next_number(&self) -> u64
+        requires { length self.now.items < self.now.room }
+        ensures { result ≡ length self.now.items + 1 }
+    {
+        self.snapshots.len() as u64 + 1
     }
 }

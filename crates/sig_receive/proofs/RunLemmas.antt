@@ -1,9 +1,7 @@
 -- One watch of a receiver.
-use Rattle.std.proofs.Common.{◌≡◌, ◌∙◌, ℕ, Bool, List, Option, refl, ap, subst}
-use Rattle.std.specs.Prelude.{MatchOption, is_some}
+use Rattle.std.proofs.Common.{◌≡◌, ◌∙◌, ℕ, Bool, List, refl, ap, subst}
+use Rattle.std.specs.Prelude.{is_some}
 use Rattle.sig_receiver.specs.Receiver.{Received, received_of}
-use Rattle.sig_logs.specs.Logs.{Differs, HasTurns}
-use Rattle.sig_logs.specs.declared.difference.Differ.{Differ}
 use Rattle.sig_links.specs.Views.{DoorView}
 use Rattle.sig_rxnode.specs.declared.rules.RxRules.{RxRules}
 use Rattle.sig_link.specs.declared.log.LinkLog.{LinkLog}
@@ -18,33 +16,27 @@ use Rattle.sig_watch.specs.declared.report.WatchEnd.{WatchEnd}
 use Rattle.sig_receive.specs.Door.{with_door}
 use Rattle.sig_receive.specs.Watches.{IsWatch, Watch}
 
--- the turns of the logs beside the node's, by what is told of their difference
-abbrev pub Compares : List (LinkLog RxTurn) → List RxTurn → Option Differ → Type 0
-Compares logs turns differ = MatchOption differ
-    (HasTurns (λ (t : RxTurn). t.link) (λ (log : LinkLog RxTurn). log.link) (λ (log : LinkLog RxTurn). log.turns) logs turns)
-    (λ d. Differs (λ (t : RxTurn). t.link) (λ (log : LinkLog RxTurn). log.link) (λ (log : LinkLog RxTurn). log.turns) logs turns d)
-
 -- why a watch ended, by the turns of its logs beside the node's
-abbrev pub WhyEnded : {D : Type 0} → RxRules → Report (LinkLog RxTurn) → WatchEnd (NodeView D) (LinkLog RxTurn) → DoorView → DoorView → Type 0
-WhyEnded {D} rules report end old new =
+abbrev pub WhyEnded : {D : Type 0} → RxRules → NodeView D → Report → WatchEnd (NodeView D) → DoorView → DoorView → Type 0
+WhyEnded {D} rules now report end old new =
     watch.WhyEnded (λ (t : RxTurn). t.link) (λ (log : LinkLog RxTurn). log.link) (λ (log : LinkLog RxTurn). log.turns) (λ (node : NodeView D). node.turns) (λ (node : NodeView D). is_some node.kept.store.broken_at)
-    (ServesOne rules) report end old new
+    (ServesOne rules) now report end old new
 
 -- what a watch says of the node and the door, as a watch of a run
-pub watch_is : {D : Type 0} (told : D → Bool) (seen : D → List ℕ) (may_leave : D → List ℕ → Type 0) (old now : NodeView D) (report : Report (LinkLog RxTurn)) (end : WatchEnd (NodeView D) (LinkLog RxTurn)) (door door' : DoorView)
-    (differ : Option Differ) → Follows told old now → IsOneHistory told seen may_leave now → WhyEnded old.rules report end door door' → Compares report.links now.turns differ
-    → (w : Watch) × (w.report ≡ report) × (w.differ ≡ differ) × IsWatch old.rules w (with_door told old door) (with_door told now door')
-watch_is told seen may_leave old now report end door door' differ follows history why compares =
+pub watch_is : {D : Type 0} (told : D → Bool) (seen : D → List ℕ) (may_leave : D → List ℕ → Type 0) (old now : NodeView D) (report : Report) (end : WatchEnd (NodeView D)) (door door' : DoorView)
+    → Follows told old now → IsOneHistory told seen may_leave now → (why : WhyEnded old.rules now report end door door')
+    → (w : Watch) × (w.shut ≡ report.shut) × (w.differ ≡ why.differs) × IsWatch old.rules w (with_door told old door) (with_door told now door')
+watch_is told seen may_leave old now report end door door' follows history why =
     let texts : (since_of now) ≡ changes_of old.rules.trust old.kept.state now.turns =
     history.turns.changes ∙ ap (λ (r : RxRules). changes_of r.trust (base_of now) now.turns) follows.rules ∙ ap (λ (s : Received). changes_of old.rules.trust s now.turns) follows.base in (
-      record { report = report; turns = now.turns; texts = (since_of now); differ = differ },
+      record { logs = why.logs; shut = report.shut; turns = now.turns; texts = (since_of now); differ = why.differs },
       refl,
       refl,
       record {
         stop = why.stop;
         links = why.attends;
         shut = why.shut;
-        compares = compares;
+        compares = why.compares;
         first = history.turns.first;
         answers = subst (λ (s : Received). AreTrue old.rules.trust s history.turns.first now.turns) follows.base
             (subst (λ (r : RxRules). AreTrue r.trust (base_of now) history.turns.first now.turns) follows.rules history.turns.answers);

@@ -1,15 +1,12 @@
 -- A node goes on from the state before its watch.
-use Rattle.std.proofs.Common.{◌≡◌, ◌∙◌, ℕ, List, Bool, Option, Some, Result, take, sym, ap, take-append-drop}
+use Rattle.std.proofs.Common.{◌≡◌, ◌∙◌, ℕ, List, Bool, take, sym, ap, take-append-drop}
 use Rattle.std.proofs.Math.Seq.{take-length}
-use Rattle.sig_journal.specs.declared.node_fault.NodeFault.{NodeFault}
+use Rattle.sig_journal.specs.Appended.{WritesOne}
+use Rattle.sig_opening.proofs.TurnLemmas.{files_stay}
 use Rattle.sig_receiver.specs.Receiver.{nothing, received_of}
 use Rattle.sig_receiver.proofs.JournalLemmas.{joins}
-use Rattle.sig_rxnode.specs.declared.answer.RxAnswer.{RxAnswer}
-use Rattle.sig_rxnode.specs.declared.call.RxCall.{RxCall}
 use Rattle.sig_rxnode.specs.Holding.{IsHolding}
 use Rattle.sig_rxnode.specs.Node.{IsHistory, NodeView, base_of, begun, files_told, since_of}
-use Rattle.sig_rxnode.specs.Told.{RxTold, TakesTurn}
-use Rattle.sig_rxnode.specs.Turns.{with_turn}
 use Rattle.sig_rxend.specs.Ends.{Follows, IsOneHistory}
 
 module _ {D : Type 0} where
@@ -26,20 +23,14 @@ module _ {D : Type 0} where
     files = ap (λ (n : NodeView D). files_told told n) is;
   }
 
-  -- what it tells
-  abbrev pub told_by : (D → Bool) → NodeView D → RxTold
-  told_by told node = record { turns = node.turns; base = base_of node; rules = node.rules; files = files_told told node }
-
   -- after a further turn
-  pub turn_follows : (told : D → Bool) (before old new : NodeView D) (link : ℕ) (call : RxCall) (result : Result RxAnswer NodeFault)
-      → TakesTurn (Some (told_by told old)) (Some (told_by told new)) link call result → Follows told before old → Follows told before new
-  turn_follows told before old new link call result keeps follows =
-      let same : told_by told new ≡ record (told_by told old) { turns = with_turn old.turns link call result } = cc in
-      record {
-        base = ap (λ (t : RxTold). t.base) same ∙ follows.base;
-        rules = ap (λ (t : RxTold). t.rules) same ∙ follows.rules;
-        files = ap (λ (t : RxTold). t.files) same ∙ follows.files;
-      }
+  pub turn_follows : (told : D → Bool) (before old new : NodeView D) → base_of new ≡ base_of old → new.rules ≡ old.rules → WritesOne told old.kept.store.journal new.kept.store.journal
+      → Follows told before old → Follows told before new
+  turn_follows told before old new base rules files follows = record {
+    base = base ∙ follows.base;
+    rules = rules ∙ follows.rules;
+    files = files_stay told old.kept.store.journal new.kept.store.journal files ∙ follows.files;
+  }
 
   pub one_history : (told : D → Bool) (seen : D → List ℕ) (may_leave : D → List ℕ → Type 0) (node : NodeView D) → IsHolding told seen may_leave node.kept → IsHistory node
       → IsOneHistory told seen may_leave node

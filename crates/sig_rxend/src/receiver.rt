@@ -1,4 +1,5 @@
 use crate::{Locked, RxEnd};
+use sig_book::Naming;
 use sig_json::Memory;
 use sig_link::{LinkLog, serve_link};
 use sig_links::{Link, Side};
@@ -20,6 +21,8 @@ impl<D: Disk> Lasting for Receiver<D> {
 
     type Node = RxNode<D>;
 
+    type Log = LinkLog<RxTurn>;
+
     ghost follows = { Follows D.told };
 
     ghost follows_once = { λ before now. Prim.hlevel props };
@@ -30,8 +33,6 @@ impl<D: Disk> Served for Receiver<D> {
     ghost use Rattle.sig_rxend.specs.Serving.{ServesOne};
 
     type Rules = RxRules;
-
-    type Log = LinkLog<RxTurn>;
 
     ghost rules_of = { λ n. n.rules };
 
@@ -53,7 +54,7 @@ impl<D: Disk> Served for Receiver<D> {
         let _ = node.broken_at();
     }
 
-    fn serve<O: Opened<RxNode<D>>, R: Wait, L: Link, S: Side>(
+    fn serve<O: Opened<RxNode<D>> + Naming, R: Wait, L: Link, S: Side>(
         alloc: Global,
         rt: &R,
         node: &Mutex<Shared<Receiver<D>, O>>,

@@ -1,8 +1,8 @@
 -- What a node is made of may cross threads.
 use denote.RattleType.{RattleType}
 use denote.Struct.Declared.{shape}
-use denote.Param.Send.{IsSend, IsSync, recorded_send, recorded_sync, sendable, struct_send, struct_sync, view_send, view_sync}
-use Rattle.std.proofs.Crossing.{Vec-send, Vec-sync, crosses}
+use denote.Param.Send.{IsSend, IsSync, recorded_send, recorded_sync, sendable, struct_send, struct_sync}
+use Rattle.std.proofs.Crossing.{crosses}
 use Rattle.std.proofs.MapsCrossing as maps
 use Rattle.serde_json.proofs.value.Value.TheLaws.TheKnot.{send-Value, sync-Value}
 use Rattle.sig_json.specs.contracts.bytes.Bytes as Bytes
@@ -16,9 +16,7 @@ use Rattle.sig_past.specs.contracts.past.Past as Past
 use Rattle.sig_set.proofs.prepared.PreparedTrust.TheSendSync as trust
 use Rattle.sig_journal.proofs.store.Store.TheSendSync as store
 use Rattle.sig_rxnode.proofs.rules.RxRules.TheSendSync as rules
-use Rattle.sig_rxnode.proofs.turn.RxTurn.TheSendSync as turn
 use Rattle.sig_rxnode.specs.contracts.journalled.Journalled as Journalled
-use Rattle.sig_rxnode.specs.contracts.node.RxNode as Node
 use Rattle.sig_rxnode.specs.contracts.node.RxNode.TheInside as Inside
 use Rattle.sig_rxnode.specs.contracts.turn.RxTurn as Turn
 
@@ -52,14 +50,20 @@ texts_send = search (sendable, crosses) depth 60 fits 20000
 texts_sync : IsSync (Past.the_field Bytes.the_row).row
 texts_sync = search (sendable, crosses) depth 60 fits 20000
 
+turns_send : IsSend (Past.the_field Turn.the_row).row
+turns_send = search (sendable, crosses) depth 60 fits 20000
+
+turns_sync : IsSync (Past.the_field Turn.the_row).row
+turns_sync = search (sendable, crosses) depth 60 fits 20000
+
 journalled_send : (D : RattleType) (g : Ghosts D.Denot) → IsSend D → IsSend (Journalled.the_field D g).row
 journalled_send D g d = struct_send (shape (Journalled.the_type D g)) (search (sendable, crosses), (receiver_send, (texts_send, (store.the_send D g d, tt))))
 
 pub inside_send : (D : RattleType) (g : Ghosts D.Denot) → IsSend D → IsSend (Inside.the_row D g)
-inside_send D g d = recorded_send _ _ (Inside.the_type D g).to (Inside.the_type D g).to_one (struct_send (shape (Inside.the_type D g)) (journalled_send D g d, (rules.the_field_send, (trust.the_send, (Vec-send Turn.the_row turn.the_send, (search (sendable, crosses), tt))))))
+inside_send D g d = recorded_send _ _ (Inside.the_type D g).to (Inside.the_type D g).to_one (struct_send (shape (Inside.the_type D g)) (journalled_send D g d, (rules.the_field_send, (trust.the_send, (turns_send, (search (sendable, crosses), tt))))))
 
 journalled_sync : (D : RattleType) (g : Ghosts D.Denot) → IsSync D → IsSync (Journalled.the_field D g).row
 journalled_sync D g d = struct_sync (shape (Journalled.the_type D g)) (search (sendable, crosses), (receiver_sync, (texts_sync, (store.the_sync D g d, tt))))
 
 pub inside_sync : (D : RattleType) (g : Ghosts D.Denot) → IsSync D → IsSync (Inside.the_row D g)
-inside_sync D g d = recorded_sync _ _ (Inside.the_type D g).to (Inside.the_type D g).to_one (struct_sync (shape (Inside.the_type D g)) (journalled_sync D g d, (rules.the_field_sync, (trust.the_sync, (Vec-sync Turn.the_row turn.the_sync, (search (sendable, crosses), tt))))))
+inside_sync D g d = recorded_sync _ _ (Inside.the_type D g).to (Inside.the_type D g).to_one (struct_sync (shape (Inside.the_type D g)) (journalled_sync D g d, (rules.the_field_sync, (trust.the_sync, (turns_sync, (search (sendable, crosses), tt))))))

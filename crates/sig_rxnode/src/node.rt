@@ -1,5 +1,5 @@
-ghost use Rattle.std.specs.Prelude.{◌≡◌, ◌⊎◌, ◌+◌, ◌<◌, [], IfErr, IfOk, IsTrue, MatchResult, None, is_some, length, true, vec_len, vec_capacity};
-ghost use Rattle.sig_json.specs.Answers.{result_map};
+ghost use Rattle.std.specs.Prelude.{◌≡◌, ◌⊎◌, ◌<◌, ◌++◌, [], IfErr, IfOk, IsTrue, MatchResult, None, is_some, length, true};
+ghost use Rattle.std.specs.Option.{option_to_list};
 ghost use Rattle.sig_outside.specs.Causes.{Rose};
 ghost use Rattle.sig_outside.specs.Disk.{StopsAfter};
 ghost use Rattle.sig_journal.specs.declared.fault.LoadFault.TheVariants as load_fault;
@@ -11,12 +11,14 @@ ghost use Rattle.sig_rxnode.specs.Holding.{IsHolding};
 ghost use Rattle.sig_rxnode.specs.Parts.{holding_of};
 ghost use Rattle.sig_rxnode.specs.Take.{KeepsTurn};
 
-use crate::journalled::{Journalled, Told};
+use crate::journalled::Journalled;
+use crate::keeping::{keep_turn, make_room};
 use crate::loading::load;
-use crate::{RxAnswer, RxCall, RxFault, RxRules, RxState, RxTurn};
+use crate::{RxAnswer, RxCall, RxFault, RxRules, RxState, RxTaken, RxTurn};
 use sig_journal::{LoadFault, LoadRefused};
 use sig_json::Memory;
 use sig_outside::Disk;
+use sig_past::Past;
 use sig_set::PreparedTrust;
 use std::alloc::Global;
 use std::marker::Model;
@@ -27,7 +29,7 @@ pub struct RxNode<D: Disk> {
     kept: Journalled<D>,
     rules: RxRules,
     trust: PreparedTrust,
-    turns: Vec<RxTurn>,
+    turns: Past<RxTurn>,
     opened: usize,
 }
 
@@ -91,11 +93,36 @@ impl<D: Disk> RxNode<D> {
         ensures opened { self.new.opened ≡ self.old.opened }
         ensures base { base_of self.new ≡ base_of self.old }
     {
-        let copied = call.copy(self.kept.alloc)?;
-        self.turns.reserve(1)?;
-        let turn = next_turn(&self.turns);
-        let told = self.kept.answer(&self.trust, call, turn);
-        keep_turn(&mut self.turns, link, copied, told)
+        let RxTaken { result, turn: _ } = self.take_kept(link, call);
+        result
+    }
+
+    /// Takes a call as `take` does, and gives the turn that was kept: none exactly where memory ran out. The node itself keeps
+    /// no turn when the program runs.
+    pub fn take_kept(&mut self, link: u32, call: &RxCall) -> RxTaken
+        ensures answered { Answered call.now self.old self.new result.result }
+        ensures turns { KeepsTurn self.old.turns self.new.turns link call.now result.result }
+        ensures turn { self.new.turns ≡ self.old.turns ++ option_to_list result.turn }
+        ensures writes { Writes D.told D.seen D.may_leave D.moment D.left_since D.stop D.short (added_by self.old call.now) self.old.kept self.new.kept result.result }
+        ensures refused { Refused D.faults call.now self.old self.new result.result }
+        ensures holds { IsHolding D.told D.seen D.may_leave self.old.kept × IsHolding D.told D.seen D.may_leave self.new.kept }
+        ensures files { WritesOne D.told self.old.kept.store.journal self.new.kept.store.journal }
+
+        // The turn adds to the history, and leaves where it began.
+        ensures opened { self.new.opened ≡ self.old.opened }
+        ensures base { base_of self.new ≡ base_of self.old }
+    {
+        match make_room(self.kept.alloc, &mut self.turns, call) {
+            Ok(copied) => {
+                let turn = self.turns.next_number();
+                let told = self.kept.answer(&self.trust, call, turn);
+                keep_turn(&mut self.turns, link, copied, told)
+            }
+            Err(Memory) => RxTaken {
+                result: Err(RxFault::Memory),
+                turn: None,
+            },
+        }
     }
 
     /// Opens a watch of a node that isn't broken: from now on its base is what is kept now, and it has no turn. It takes no
@@ -105,7 +132,7 @@ impl<D: Disk> RxNode<D> {
         ensures { self.new ≡ begun self.old }
     {
         self.opened = self.kept.entries.len();
-        self.turns = Vec::new(self.kept.alloc);
+        self.turns = Past::new(self.kept.alloc);
     }
 
     /// The settings by which calls are answered.
@@ -152,11 +179,11 @@ impl<D: Disk> RxNode<D> {
         })
     }
 
-    /// The turns since the watch was opened, or the node was loaded, in order.
-    pub fn turns(&self) -> &[RxTurn]
-        ensures { result.now ≡ self.now.turns }
+    /// How many turns were kept since the watch was opened, or the node was loaded. It takes no memory.
+    pub fn turn_count(&self) -> usize
+        ensures { result ≡ length self.now.turns }
     {
-        self.turns.as_slice()
+        self.turns.len()
     }
 
     /// How many tokens stand in the journal. It takes no memory.
@@ -202,7 +229,7 @@ fn node_of<D: Disk>(
             kept,
             rules,
             trust,
-            turns: Vec::new(alloc),
+            turns: Past::new(alloc),
             opened,
         }),
         Err(_) => {
@@ -230,47 +257,4 @@ fn disks_of<D: Disk>(kept: Journalled<D>) -> (D, D)
     // What a store leaves rests on what holds of every store.
     let _ = store.broken_at();
     store.into_disks()
-}
-
-// The number of the turn that is kept next.
-fn next_turn(turns: &Vec<RxTurn>) -> u64
-    ensures { result ≡ length turns.now.items + 1 }
-{
-    turns.as_slice().len() as u64 + 1
-}
-
-// Keeps a turn last, for which there is room, unless memory ran out; and gives its answer.
-fn keep_turn(
-    turns: &mut Vec<RxTurn>,
-    link: u32,
-    call: RxCall,
-    told: Result<Told, RxFault>,
-) -> Result<RxAnswer, RxFault>
-    requires room { vec_len turns.old < vec_capacity turns.old }
-    requires twice { IfOk told (λ t. t.copy ≡ t.answer) }
-    ensures same { result ≡ result_map (λ t. t.answer) told }
-    ensures turn { KeepsTurn turns.old.items turns.new.items link call result }
-{
-    match told {
-        Ok(Told { answer, copy }) => {
-            turns.push_reserved(RxTurn {
-                link,
-                call,
-                result: Ok(copy),
-            });
-            Ok(answer)
-        }
-        Err(RxFault::Memory) => {
-            drop(call);
-            Err(RxFault::Memory)
-        }
-        Err(fault) => {
-            turns.push_reserved(RxTurn {
-                link,
-                call,
-                result: Err(fault),
-            });
-            Err(fault)
-        }
-    }
 }

@@ -11,10 +11,6 @@ impl<D: Disk> Watched for RxNode<D> {
 
     ghost broken = { λ n. is_some n.kept.store.broken_at };
 
-    fn kept_turns(&self) -> &[RxTurn] {
-        self.turns()
-    }
-
     fn is_broken(&self) -> bool {
         self.broken_at().is_some()
     }

@@ -1,6 +1,6 @@
 -- No turn of a push round hands out tokens of a stream whose client the rules don't have.
-use Rattle.std.proofs.Common.{◌≡◌, ℕ, Bool, true, false, List, [], ◌∷◌, ◌++◌, Option, Some, None, Result, Ok, Err, filter, if◌then◌else◌, refl, sym, subst}
-use Rattle.std.specs.Prelude.{◌⊎◌, All, option_map, ⊤}
+use Rattle.std.proofs.Common.{◌≡◌, ℕ, Bool, true, false, List, [], ◌∷◌, Option, Some, None, Result, Ok, Err, filter, if◌then◌else◌, refl, sym, subst}
+use Rattle.std.specs.Prelude.{All, option_map, ⊤}
 use Rattle.std.proofs.Common.{inl, inr}
 use Rattle.std.proofs.lemmas.List.Elements.{All-cons, All-nil, All-append, All-head, All-tail}
 use Rattle.sig_journal.specs.declared.node_fault.NodeFault.{NodeFault}
@@ -8,9 +8,8 @@ use Rattle.sig_links.specs.Views.{SideView}
 use Rattle.sig_push.specs.declared.fault.PushFault.{PushFault}
 use Rattle.sig_round.specs.Delivered.{Settles}
 use Rattle.sig_round.specs.Rounds.{AreRounds, IsRound, NextUnless, is_starved}
-use Rattle.sig_round.specs.Turns.{Asker, IsTurnOf}
+use Rattle.sig_round.specs.Turns.{Asker}
 use Rattle.sig_terms.specs.declared.answer.Answer.{Answer}
-use Rattle.sig_terms.specs.declared.call.Call.TheVariants.{Hand, Settle}
 use Rattle.sig_terms.specs.declared.call.Outcome.{Outcome}
 use Rattle.sig_terms.specs.declared.rules.Rules.{Rules}
 use Rattle.sig_terms.specs.declared.token.Token.{Token}

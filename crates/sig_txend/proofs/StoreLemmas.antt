@@ -1,5 +1,5 @@
 -- A transmitter's node between the files that are opened and those that are put back.
-use Rattle.std.proofs.Common.{◌≡◌, ℕ, Bool, true, false, List, [], ◌∷◌, Option, Some, None, Result, Ok, Err, if◌then◌else◌, sym}
+use Rattle.std.proofs.Common.{◌≡◌, ℕ, Bool, true, false, List, [], ◌∷◌, Some, None, Result, Ok, Err, if◌then◌else◌, sym}
 use Rattle.std.specs.Prelude.{IsTrue}
 use Rattle.sig_fields.specs.declared.fault.DecodeFault.{DecodeFault}
 use Rattle.sig_history.specs.Owed.{Sum, sum_of}

@@ -3,20 +3,21 @@ ghost use Rattle.sig_calls.specs.Proper.{IsProperCall};
 ghost use Rattle.sig_txnode.specs.Answering.{IsAnswerTo, time_used};
 
 use crate::Transmitter;
+use sig_book::Naming;
 use sig_outside::Disk;
 use sig_terms::{Answer, Call};
-use sig_txnode::{Taker, TxFault, TxNode};
+use sig_txnode::{Taken, Taker, TxFault, TxNode};
 use sig_watch::{Lasting, Opened, Shared};
 use std::sync::{Mutex, Wait};
 
 /// What asks a node under its lock. It tells nothing, since a lock hides what it holds.
 #[derive(Drop)]
-pub struct Locked<'a, E: Lasting, O: Opened<E::Node>> {
+pub struct Locked<'a, E: Lasting, O: Opened<E::Node> + Naming> {
     /// The node.
     pub node: &'a Mutex<Shared<E, O>>,
 }
 
-impl<'a, D: Disk, O: Opened<TxNode<D>>> Taker for Locked<'a, Transmitter<D>, O> {
+impl<'a, D: Disk, O: Opened<TxNode<D>> + Naming> Taker for Locked<'a, Transmitter<D>, O> {
     ghost use Rattle.std.specs.Prelude.{None};
 
     ghost told = { λ l. None };
@@ -29,13 +30,12 @@ impl<'a, D: Disk, O: Opened<TxNode<D>>> Taker for Locked<'a, Transmitter<D>, O> 
         now: u64,
     ) -> Result<Answer, TxFault> {
         let mut shared = self.node.lock(rt);
-        turn(rt, &mut *shared, link, call, now)
+        turn(&mut *shared, link, call, now)
     }
 }
 
-// Answers a call of a link, as the node's next turn.
-fn turn<R: Wait, D: Disk, O: Opened<TxNode<D>>>(
-    rt: &R,
+// Answers a call of a link, as the node's next turn, which the desk has until the link ends.
+fn turn<D: Disk, O: Opened<TxNode<D>> + Naming>(
     shared: &mut Shared<Transmitter<D>, O>,
     link: u32,
     call: &Call,
@@ -44,5 +44,10 @@ fn turn<R: Wait, D: Disk, O: Opened<TxNode<D>>>(
     requires { IsProperCall call.now }
     ensures { IfOk result (λ answer. IsAnswerTo call.now (time_used now) answer) }
 {
-    shared.node.turn(rt, link, call, now)
+    if shared.desk.reserve().is_err() {
+        return Err(TxFault::Memory);
+    }
+    let Taken { result, turn } = shared.node.take_kept(link, call, now);
+    shared.desk.keep(turn);
+    result
 }

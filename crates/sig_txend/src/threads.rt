@@ -1,10 +1,8 @@
 //! Reports move between threads, which the check of this call shows.
 
 use sig_json::crosses_threads;
-use sig_link::LinkLog;
-use sig_txnode::Turn;
 use sig_watch::Report;
 
 fn types_cross() {
-    crosses_threads::<Report<LinkLog<Turn>>>();
+    crosses_threads::<Report>();
 }

@@ -1,4 +1,5 @@
 use crate::{Locked, TxEnd};
+use sig_book::Naming;
 use sig_json::Memory;
 use sig_link::{LinkLog, serve_link};
 use sig_links::{Link, Side};
@@ -21,6 +22,8 @@ impl<D: Disk> Lasting for Transmitter<D> {
 
     type Node = TxNode<D>;
 
+    type Log = LinkLog<Turn>;
+
     ghost follows = { Follows D.told };
 
     ghost follows_once = { λ before now. Prim.hlevel props };
@@ -31,8 +34,6 @@ impl<D: Disk> Served for Transmitter<D> {
     ghost use Rattle.sig_txend.specs.Serving.{ServesOne};
 
     type Rules = Rules;
-
-    type Log = LinkLog<Turn>;
 
     ghost rules_of = { λ n. n.rules };
 
@@ -52,7 +53,7 @@ impl<D: Disk> Served for Transmitter<D> {
         let _ = node.broken_at();
     }
 
-    fn serve<O: Opened<TxNode<D>>, R: Wait, L: Link, S: Side>(
+    fn serve<O: Opened<TxNode<D>> + Naming, R: Wait, L: Link, S: Side>(
         alloc: Global,
         rt: &R,
         node: &Mutex<Shared<Transmitter<D>, O>>,

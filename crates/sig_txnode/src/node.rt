@@ -1,4 +1,4 @@
-ghost use Rattle.std.specs.Prelude.{◌≡◌, ◌⊎◌, ◌+◌, ◌<◌, ◌++◌, length, IfErr, IfOk, IsErrOf, IsTrue, MatchResult, OnErr, OnOk, is_some, true, vec_len, vec_capacity};
+ghost use Rattle.std.specs.Prelude.{◌≡◌, ◌⊎◌, ◌+◌, ◌<◌, ◌++◌, length, IfErr, IfOk, IsErrOf, IsTrue, MatchResult, OnErr, OnOk, is_some, true};
 ghost use Rattle.std.specs.Option.{option_to_list};
 ghost use Rattle.sig_json.specs.Answers.{Answers};
 ghost use Rattle.sig_calls.specs.Proper.{IsProperRules};
@@ -15,7 +15,7 @@ ghost use Rattle.sig_journal.specs.Taking as taking;
 ghost use Rattle.sig_txnode.specs.Loaded.{Begins, state_by, told_of};
 ghost use Rattle.sig_txnode.specs.Records.{sending};
 
-use crate::Turn;
+use crate::Taken;
 use crate::keeping::{Held, take_turn};
 use crate::loading::state_in;
 use sig_journal::{Kind, LoadFault, LoadRefused, Loaded, NodeFault, Store};
@@ -103,6 +103,21 @@ impl<D: Disk> TxNode<D> {
         ensures refused { Refused D.faults self.old.store self.new.store (length self.old.turns + 1) result }
         ensures memory { IsErrOf result NodeFault.Memory → self.new ≡ self.old }
     {
+        let Taken { result, turn: _ } = self.take_kept(link, call, now);
+        result
+    }
+
+    /// Answers a call as `take` does, and gives the turn that was kept: none exactly where memory ran out. The node itself
+    /// keeps no turn when the program runs.
+    pub fn take_kept(&mut self, link: u32, call: &Call, now: u64) -> Taken
+        requires { IsProperCall call.now }
+        ensures answered { Answered (answer_at self.old.rules self.old.state self.old.store.journal.end call.now (time_used now)) (change_of self.old.rules self.old.state call.now (time_used now)) self.old.store.broken_at self.old.state self.new.state result.result }
+        ensures kept { Kept self.old self.new link call.now (time_used now) result.result }
+        ensures turn { self.new.turns ≡ self.old.turns ++ option_to_list result.turn }
+        ensures lasts { Lasts D.told D.seen D.may_leave D.moment D.left_since D.stop D.short self.old.store self.new.store self.old.state (change_of self.old.rules self.old.state call.now (time_used now)) result.result }
+        ensures refused { Refused D.faults self.old.store self.new.store (length self.old.turns + 1) result.result }
+        ensures memory { IsErrOf result.result NodeFault.Memory → self.new ≡ self.old }
+    {
         take_turn(
             self.alloc,
             &mut self.held,
@@ -121,7 +136,7 @@ impl<D: Disk> TxNode<D> {
     {
         self.base = Snapshot::of(&self.held.outbox);
         self.held.entries = Past::new(self.alloc);
-        self.held.turns = Vec::new(self.alloc);
+        self.held.turns = Past::new(self.alloc);
     }
 
     /// The rules by which calls are answered. They are proper ones.
@@ -131,11 +146,11 @@ impl<D: Disk> TxNode<D> {
         &self.rules
     }
 
-    /// The turns since the watch was opened, or the node was loaded, in order.
-    pub fn turns(&self) -> &[Turn]
-        ensures { result.now ≡ self.now.turns }
+    /// How many turns were kept since the watch was opened, or the node was loaded. It takes no memory.
+    pub fn turn_count(&self) -> usize
+        ensures { result ≡ length self.now.turns }
     {
-        self.held.turns.as_slice()
+        self.held.turns.len()
     }
 
     /// How many records stand in the journal. It takes no memory.
@@ -236,7 +251,7 @@ fn opened<D: Disk>(
                     store: Store::open(journal),
                     outbox,
                     entries: Past::new(alloc),
-                    turns: Vec::new(alloc),
+                    turns: Past::new(alloc),
                 },
             })
         }

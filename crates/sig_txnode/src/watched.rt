@@ -11,10 +11,6 @@ impl<D: Disk> Watched for TxNode<D> {
 
     ghost broken = { λ n. is_some n.store.broken_at };
 
-    fn kept_turns(&self) -> &[Turn] {
-        self.turns()
-    }
-
     fn is_broken(&self) -> bool {
         self.broken_at().is_some()
     }

@@ -88,7 +88,7 @@ module _ {G : Type 0} (serves : ℕ → G → Sight → Sight → Type 0) where
         coming = λ same. r.coming (same ∙ sym h.1.2) ∙ back.coming;
       }
 
-left_more : {G : Type 0} (first second : List (Event G)) → left_of (first ++ second) ≡ left_of first ++ left_of second
+pub left_more : {G : Type 0} (first second : List (Event G)) → left_of (first ++ second) ≡ left_of first ++ left_of second
 left_more [] second = refl
 left_more (Came sight ∷ first) second = left_more first second
 left_more (Went one log left ∷ first) second = ap (λ (l : List Sight). left ∷ l) (left_more first second)

@@ -3,5 +3,6 @@ pub mod Attending
 pub mod Ends
 pub mod Happening
 pub mod Passing
+pub mod Receipts
 pub mod Returning
 pub mod Sights

@@ -1,6 +1,7 @@
 //! A whole watch of a door.
 
-ghost use Rattle.std.specs.Prelude.{◌≡◌, [], length, vec_len};
+ghost use Rattle.std.specs.Prelude.{◌≡◌, ◌≤◌, [], length, vec_len};
+ghost use Rattle.sig_watch.specs.declared.limits.TheConstants.{LINKS_PER_WATCH};
 ghost use Rattle.std.specs.Thread.{IsSync};
 ghost use Rattle.sig_watch.specs.Attending.{Attends};
 ghost use Rattle.sig_watch.specs.Passing.{HaltsSo, LetsIn};
@@ -44,6 +45,7 @@ pub fn attend<R: Threads + Wait + Sync, H: Host + Sync, A: Door>(
     room: Room<H, A::L, A::S>,
 ) -> Attended<H::Log>
     ensures attends { Attends (H.serves host.now) result.stop result.logs (A.view door.old) (A.view door.new) }
+    ensures few { length result.logs ≤ LINKS_PER_WATCH }
     ensures lets_in { LetsIn (H.answered host.now) 0 (length result.logs) }
     ensures halts { HaltsSo (H.answered host.now) result.stop (length result.logs) }
 {

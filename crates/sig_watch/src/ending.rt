@@ -1,28 +1,26 @@
-ghost use Rattle.std.specs.Prelude.{◌≡◌};
+ghost use Rattle.std.specs.Prelude.{◌≡◌, MatchOption, length};
 ghost use Rattle.sig_serving.specs.Stops.{is_shut};
 ghost use Rattle.sig_watch.specs.Ends.{EndsBy, IfReport, IsReported};
+ghost use Rattle.sig_watch.specs.Receipts.{AreSettled, IsUnlike};
 
-use crate::{Attended, Report, WatchEnd};
-use sig_logs::{Logged, Watched, differ};
+use crate::{Report, WatchEnd};
+use sig_book::Naming;
+use sig_desk::{Desk, Receipt};
+use sig_logs::{Differ, Logged, Watched};
 use sig_serving::Stop;
 
-/// The end of a watch over this node, whose links came to this. The logs are compared before every other end is chosen.
-pub fn end_of<N: Watched, G: Logged<Turn = N::Turn>>(
-    node: N,
-    attended: Attended<G>,
-) -> WatchEnd<N, G>
-    ensures gives { IfReport result (λ now report. (now ≡ node) × (report.links ≡ attended.logs) × (report.shut ≡ is_shut attended.stop)) }
-    ensures ends { EndsBy N.Turn.link_of G.number_of G.turns_of N.turns_of N.broken attended.stop result }
+/// The end of a watch over this node, of which this differs, if anything: that is told before every other end.
+pub fn end_of<N: Watched>(node: N, differ: Option<Differ>, stop: Stop, links: u32) -> WatchEnd<N>
+    ensures gives { IfReport result (λ now report. (now ≡ node) × (report.links ≡ links) × (report.shut ≡ is_shut stop)) }
+    ensures ends { EndsBy N.broken stop differ result }
     ensures reported { IsReported result }
 {
-    let Attended { stop, logs } = attended;
-    let told = differ(logs.as_slice(), node.kept_turns());
     let is_broken = node.is_broken();
     let report = Report {
-        links: logs,
+        links,
         shut: stop.is_shut(),
     };
-    match told {
+    match differ {
         Some(differ) => WatchEnd::Disagree {
             node,
             differ,
@@ -35,4 +33,24 @@ pub fn end_of<N: Watched, G: Logged<Turn = N::Turn>>(
             Stop::Halted => WatchEnd::Halted { node, report },
         },
     }
+}
+
+/// What differs at the end of a watch, if anything: at the place 0, the first receipt that isn't of this desk's history; or
+/// what the desk tells.
+pub fn differ_of<J: Naming, G: Logged<Turn: Drop>>(
+    desk: &Desk<J, G, G::Turn>,
+    receipts: &[Receipt<J, G>],
+    links: u32,
+) -> Option<Differ>
+    ensures { MatchOption result (AreSettled links desk.now receipts.now) (IsUnlike G.Turn.link_of desk.now receipts.now) }
+{
+    for receipt in receipts {
+        if !desk.shows(receipt) {
+            return Some(Differ::Turn {
+                link: receipt.number(),
+                place: 0,
+            });
+        }
+    }
+    desk.settle(links)
 }

@@ -1,4 +1,4 @@
 //! What bounds a watch.
 
-/// Links that a watch accepts at most. What each came to is kept until the watch ends, so it bounds memory.
-pub const LINKS_PER_WATCH: usize = 1_024;
+/// Links that a watch accepts at most. Sixteen bytes are kept for each until the watch ends.
+pub const LINKS_PER_WATCH: usize = 65_536;

@@ -1,11 +1,11 @@
-ghost use Rattle.std.specs.Prelude.{◌≡◌, ℕ, IfOk, false};
+ghost use Rattle.std.specs.Prelude.{◌≡◌, ℕ, IfOk, [], false};
 ghost use Rattle.sig_serving.specs.Line.{seen};
 ghost use Rattle.sig_watch.specs.Sights.{Sight, sight};
 
 use crate::{Lasting, Opened, Shared};
+use sig_book::Naming;
 use sig_json::Memory;
 use sig_links::{Link, Side};
-use sig_logs::{Logged, Watched};
 use std::alloc::Global;
 use std::sync::{Mutex, Wait};
 
@@ -15,8 +15,6 @@ use std::sync::{Mutex, Wait};
 /// says how a link comes to a log by such rules: its number, its log, and what is seen of it and of its side before and after.
 pub trait Served: Lasting {
     type Rules: Sync + Drop;
-
-    type Log: Logged<Turn = <Self::Node as Watched>::Turn> + Send + Drop;
 
     ghost rules_of: { Self.Node → Self.Rules };
 
@@ -31,7 +29,8 @@ pub trait Served: Lasting {
     /// Opens a watch of a node that isn't broken: from now on its base is its state, and it has no turn. It takes no memory.
     fn open_watch(node: &mut Self::Node)
         requires { Self.Node.broken node.old ≡ false }
-        ensures { Self.follows node.old node.new };
+        ensures follows { Self.follows node.old node.new }
+        ensures fresh { Self.Node.turns_of node.new ≡ [] };
 
     /// What holds of every node. It does nothing.
     fn recalls(node: &Self::Node)
@@ -39,7 +38,7 @@ pub trait Served: Lasting {
 
     /// Serves a link under this number, with the node under its lock as what answers its calls. It may wait for the link, for
     /// those that it dials, and for others that ask the node.
-    fn serve<O: Opened<Self::Node>, R: Wait, L: Link, S: Side>(
+    fn serve<O: Opened<Self::Node> + Naming, R: Wait, L: Link, S: Side>(
         alloc: Global,
         rt: &R,
         node: &Mutex<Shared<Self, O>>,

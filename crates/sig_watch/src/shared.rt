@@ -1,16 +1,23 @@
 //! A node under a lock, which several links ask, one at a time.
 
+ghost use Rattle.std.proofs.Props.{props};
 ghost use Rattle.std.specs.Prelude.{◌≡◌, IfSome, Option, Some};
+ghost use Rattle.sig_desk.specs.Keeping.{IsKept};
+ghost use Rattle.sig_desk.specs.Settling.{IsOf};
 
-use sig_logs::Watched;
+use sig_book::{Book, Naming};
+use sig_desk::{Desk, Receipt};
+use sig_logs::{Logged, Watched};
 use std::marker::{Brand, PhantomData};
 use std::snapshot::Snapshot;
 
-/// A kind of node, and what of it lasts whatever its links ask.
+/// A kind of node with the logs of its links, and what of it lasts whatever its links ask.
 ///
 /// Its meaning `follows` says of a node that its watch began with the state of another, and what of that one it keeps since.
 pub trait Lasting {
-    type Node: Watched<Turn: Send>;
+    type Node: Watched<Turn: Drop>;
+
+    type Log: Logged<Turn = <Self::Node as Watched>::Turn> + Drop;
 
     ghost follows: { Self.Node → Self.Node → Type 0 };
 
@@ -29,38 +36,61 @@ impl<N> Opened<N> for Brand {
     ghost before = { None };
 }
 
-/// A node that several links ask, one at a time. Whatever they ask, it follows the node before its watch was opened.
-pub struct Shared<E: Lasting, O: Opened<E::Node>> {
+/// A node that several links ask, one at a time, and the turns of those that are open. Whatever they ask, it follows the node
+/// before its watch was opened, and the desk has kept the node's turns.
+pub struct Shared<E: Lasting, O: Opened<E::Node> + Naming> {
     /// The node.
     pub node: E::Node,
+    /// The turns of the links that are open, and the history of the logs of those that have ended.
+    pub desk: Desk<O, E::Log, <E::Node as Watched>::Turn>,
+    book: Book<O, E::Log>,
     before: Snapshot<E::Node>,
     opened: PhantomData<O>,
     pub ghost same: { ∥ Some before.value ≡ O.before ∥₁ },
     pub ghost follows: { ∥ E.follows before.value node ∥₁ },
+    pub ghost keeps: { IsKept E.Node.Turn.link_of E.Log.number_of E.Log.turns_of desk (E.Node.turns_of node) } by { Prim.hlevel props },
 }
 
-impl<E: Lasting, O: Opened<E::Node>> Shared<E, O> {
-    /// A node whose watch was just opened, and what it was before.
-    pub fn new(node: E::Node, before: Snapshot<E::Node>) -> Shared<E, O>
+impl<E: Lasting, O: Opened<E::Node> + Naming> Shared<E, O> {
+    /// A node whose watch was just opened, what it was before, and an empty desk.
+    pub fn new(
+        node: E::Node,
+        before: Snapshot<E::Node>,
+        desk: Desk<O, E::Log, <E::Node as Watched>::Turn>,
+        book: Book<O, E::Log>,
+    ) -> Shared<E, O>
         requires same { Some before.value ≡ O.before }
         requires follows { E.follows before.value node }
+        requires keeps { IsKept E.Node.Turn.link_of E.Log.number_of E.Log.turns_of desk (E.Node.turns_of node) }
     {
         Shared {
             node,
+            desk,
+            book,
             before,
             opened: PhantomData,
         }
     }
 
-    /// The node, once no link asks it any more.
-    pub fn into_node(self) -> E::Node
-        ensures { IfSome O.before (λ before. E.follows before result) }
+    /// Ends the link of this log, whose turns are compared with it and dropped.
+    pub fn end(&mut self, log: &E::Log) -> Receipt<O, E::Log>
+        ensures { IsOf E.Log.number_of log.now result }
+    {
+        self.desk.end(&self.book, log)
+    }
+
+    /// The node and its desk, once no link asks it any more.
+    pub fn into_parts(self) -> (E::Node, Desk<O, E::Log, <E::Node as Watched>::Turn>)
+        ensures follows { IfSome O.before (λ before. E.follows before result.0) }
+        ensures keeps { IsKept E.Node.Turn.link_of E.Log.number_of E.Log.turns_of result.1 (E.Node.turns_of result.0) }
     {
         let Shared {
             node,
+            desk,
+            book: _,
             before: _,
             opened: _,
         } = self;
-        node
+        (node, desk)
     }
 }

@@ -1,12 +1,21 @@
 //! A watch from its opening to its end.
 
-ghost use Rattle.std.specs.Prelude.{◌≡◌, false, IfSome, Some};
-ghost use Rattle.sig_watch.specs.Ends.{HandsBack, IfReport, WhyEnded};
+ghost use Rattle.std.specs.Prelude.{◌≡◌, ◌≤◌, [], false, IfSome, List, Option, Some, length};
+ghost use Rattle.sig_desk.specs.Keeping.{IsKept};
+ghost use Rattle.sig_logs.specs.declared.difference.Differ.{Differ};
+ghost use Rattle.sig_serving.specs.Stops.{is_shut};
+ghost use Rattle.sig_watch.specs.Attending.{Attends};
+ghost use Rattle.sig_watch.specs.Ends.{Compares, EndsBy, HandsBack, IfReport, IsReported, WhyEnded};
+ghost use Rattle.sig_watch.specs.Receipts.{AreOf, ServedBy};
+ghost use Rattle.sig_watch.specs.declared.limits.TheConstants.{LINKS_PER_WATCH};
 
-use crate::{Host, Opened, Room, Served, Shared, WatchEnd, attend, end_of};
+use crate::limits::LINKS_PER_WATCH;
+use crate::{Attended, Host, Opened, Room, Served, Shared, WatchEnd, attend, differ_of, end_of};
+use sig_book::{Book, Naming, Opened as OpenedBook};
+use sig_desk::{Desk, Receipt};
 use sig_json::Memory;
 use sig_links::{Door, Link, Side};
-use sig_logs::Watched;
+use sig_logs::{Logged, Watched};
 use std::alloc::Global;
 use std::marker::Brand;
 use std::snapshot::Snapshot;
@@ -14,17 +23,24 @@ use std::sync::{Mutex, Wait};
 use std::thread::Threads;
 
 // What serves the links of a watch: the rules that it lends to each, and the node under its lock.
-struct Locked<E: Served, O: Opened<E::Node>> {
+struct Locked<E: Served, O: Opened<E::Node> + Naming> {
     alloc: Global,
     rules: E::Rules,
     node: Mutex<Shared<E, O>>,
 }
 
-impl<E: Served, O: Opened<E::Node>> Locked<E, O> {
-    // A node whose watch is opened here, and its rules.
-    fn new(alloc: Global, node: E::Node, rules: E::Rules) -> Locked<E, O>
+impl<E: Served, O: Opened<E::Node> + Naming> Locked<E, O> {
+    // A node whose watch is opened here, its rules, and its desk.
+    fn new(
+        alloc: Global,
+        node: E::Node,
+        rules: E::Rules,
+        desk: Desk<O, E::Log, <E::Node as Watched>::Turn>,
+        book: Book<O, E::Log>,
+    ) -> Locked<E, O>
         requires same { Some node ≡ O.before }
         requires whole { E.Node.broken node ≡ false }
+        requires none { IsKept E.Node.Turn.link_of E.Log.number_of E.Log.turns_of desk [] }
         ensures { result.rules ≡ rules }
     {
         let before = Snapshot::of(&node);
@@ -33,27 +49,30 @@ impl<E: Served, O: Opened<E::Node>> Locked<E, O> {
         Locked {
             alloc,
             rules,
-            node: Mutex::new(Shared::new(node, before)),
+            node: Mutex::new(Shared::new(node, before, desk, book)),
         }
     }
 
-    // The node, once no link asks it any more.
-    fn into_node(self) -> E::Node
-        ensures { IfSome O.before (λ before. E.follows before result) }
+    // The node and its desk, once no link asks it any more.
+    fn into_parts(self) -> (E::Node, Desk<O, E::Log, <E::Node as Watched>::Turn>)
+        ensures follows { IfSome O.before (λ before. E.follows before result.0) }
+        ensures keeps { IsKept E.Node.Turn.link_of E.Log.number_of E.Log.turns_of result.1 (E.Node.turns_of result.0) }
     {
         let Locked {
             alloc: _,
             rules: _,
             node,
         } = self;
-        node.into_inner().into_node()
+        node.into_inner().into_parts()
     }
 }
 
-impl<E: Served, O: Opened<E::Node>> Host for Locked<E, O> {
-    type Log = E::Log;
+impl<E: Served<Log: Send>, O: Opened<E::Node> + Naming + Send> Host for Locked<E, O> {
+    ghost use Rattle.sig_watch.specs.Receipts.{ServedBy};
 
-    ghost serves = { λ h. E.serves h.rules };
+    type Log = Receipt<O, E::Log>;
+
+    ghost serves = { λ h. ServedBy (E.serves h.rules) E.Log.number_of };
 
     // A lock hides what the node was when it was asked.
     ghost answered = { λ h number answer. Unit {0} };
@@ -69,27 +88,29 @@ impl<E: Served, O: Opened<E::Node>> Host for Locked<E, O> {
         number: u32,
         link: &mut L,
         side: &mut S,
-    ) -> E::Log {
-        E::serve(self.alloc, rt, &self.node, &self.rules, number, link, side)
+    ) -> Receipt<O, E::Log> {
+        let log = E::serve(self.alloc, rt, &self.node, &self.rules, number, link, side);
+        let mut shared = self.node.lock(rt);
+        (*shared).end(&log)
     }
 }
 
 /// Serves the links that a door gives, over a node that isn't broken: `LINKS_PER_WATCH` at most, and `LINKS_AT_ONCE` at any
 /// time, each in a thread of its own from when it is accepted. Each is served as `E` serves it, under a number from 1 on in
-/// order of acceptance, with the node under its lock; and goes back to the door with its side once it has ended. After the
-/// door is shut or has failed, or where the node is broken, no further link is accepted, and the watch ends once all have
-/// gone back. It may wait for the door, the links, the lock and the threads.
+/// order of acceptance, with the node under its lock; its log is compared with the node's turns of it once it has ended, and
+/// both are dropped then; and it goes back to the door with its side. After the door is shut or has failed, or where the node
+/// is broken, no further link is accepted, and the watch ends once all have gone back. It may wait for the door, the links,
+/// the lock and the threads.
 ///
-/// It ends with `Disagree` where the turns of the logs and those of the node aren't the same, and tells the first that isn't;
-/// else with `Broken` exactly where the node is broken; with `Done` where as many links were served as a watch may have, or
-/// the door is shut; with `DoorFault` where the door's count of faults rose; and with `Memory` before the first link is
-/// accepted, where the node is as it was.
-pub fn serve_watch<E: Served<Node: Send> + Send, R: Threads + Wait + Sync, A: Door>(
-    alloc: Global,
-    rt: &R,
-    node: E::Node,
-    door: &mut A,
-) -> WatchEnd<E::Node, E::Log>
+/// It ends with `Disagree` where the turns of a log and those of the node aren't the same, and tells one that isn't; else with
+/// `Broken` exactly where the node is broken; with `Done` where as many links were served as a watch may have, or the door is
+/// shut; with `DoorFault` where the door's count of faults rose; and with `Memory` before the first link is accepted, where
+/// the node is as it was.
+pub fn serve_watch<
+    E: Served<Node: Watched<Turn: Send> + Send, Log: Send> + Send,
+    R: Threads + Wait + Sync,
+    A: Door,
+>(alloc: Global, rt: &R, node: E::Node, door: &mut A) -> WatchEnd<E::Node>
     requires { E.Node.broken node ≡ false }
 
     // The node that is handed back follows the one that was handed in.
@@ -100,38 +121,87 @@ pub fn serve_watch<E: Served<Node: Send> + Send, R: Threads + Wait + Sync, A: Do
 
     // The links were served side by side, and went back to the door; and how the watch ends is by why it accepts no further
     // one, by the comparison of turns and by the node.
-    ensures links { IfReport result (λ now report. WhyEnded E.Node.Turn.link_of E.Log.number_of E.Log.turns_of E.Node.turns_of E.Node.broken (E.serves (E.rules_of node)) report result
+    ensures links { IfReport result (λ now report. WhyEnded E.Node.Turn.link_of E.Log.number_of E.Log.turns_of E.Node.turns_of E.Node.broken (E.serves (E.rules_of node)) now report result
         (A.view door.old) (A.view door.new)) }
 
     ensures memory { HandsBack node door.old door.new result }
 {
     match E::rules(alloc, &node) {
-        Ok(rules) => watch::<E, Brand, R, A>(alloc, rt, node, rules, door),
+        Ok(rules) => watch::<E, Brand, R, A>(alloc, rt, node, rules, OpenedBook::new(), door),
         Err(Memory) => WatchEnd::Memory { node },
     }
 }
 
 // Serves the links of a watch by these rules, which are lent to each.
 fn watch<
-    E: Served<Node: Send> + Send,
-    O: Opened<E::Node> + Send,
+    E: Served<Node: Watched<Turn: Send> + Send, Log: Send> + Send,
+    O: Opened<E::Node> + Naming + Send,
     R: Threads + Wait + Sync,
     A: Door,
->(alloc: Global, rt: &R, node: E::Node, rules: E::Rules, door: &mut A) -> WatchEnd<E::Node, E::Log>
+>(
+    alloc: Global,
+    rt: &R,
+    node: E::Node,
+    rules: E::Rules,
+    book: OpenedBook<E::Log>,
+    door: &mut A,
+) -> WatchEnd<E::Node>
     requires same { Some node ≡ O.before }
+    requires named { book.seen.book ≡ O.book }
     requires whole { E.Node.broken node ≡ false }
     ensures follows { IfReport result (λ now report. E.follows node now) }
     ensures history { IfReport result (λ now report. E.is_history now) }
-    ensures links { IfReport result (λ now report. WhyEnded E.Node.Turn.link_of E.Log.number_of E.Log.turns_of E.Node.turns_of E.Node.broken (E.serves rules) report result
+    ensures links { IfReport result (λ now report. WhyEnded E.Node.Turn.link_of E.Log.number_of E.Log.turns_of E.Node.turns_of E.Node.broken (E.serves rules) now report result
         (A.view door.old) (A.view door.new)) }
     ensures memory { HandsBack node door.old door.new result }
 {
     let Ok(room) = Room::<Locked<E, O>, A::L, A::S>::new(alloc) else {
         return WatchEnd::Memory { node };
     };
-    let host = Locked::<E, O>::new(alloc, node, rules);
-    let attended = attend(rt, &host, door, room);
-    let node = host.into_node();
+    let (book, front) = book.named::<O>();
+    let Ok(desk) = Desk::new(alloc, front, LINKS_PER_WATCH as u32) else {
+        return WatchEnd::Memory { node };
+    };
+    let host = Locked::<E, O>::new(alloc, node, rules, desk, book);
+    let attended = attend_at(rt, &host, door, room);
+    let (node, desk) = host.into_parts();
     E::recalls(&node);
-    end_of(node, attended)
+    ended(node, &desk, attended)
+}
+
+// Serves the links that a door gives.
+fn attend_at<
+    E: Served<Node: Watched<Turn: Send> + Send, Log: Send> + Send,
+    O: Opened<E::Node> + Naming + Send,
+    R: Threads + Wait + Sync,
+    A: Door,
+>(
+    rt: &R,
+    host: &Locked<E, O>,
+    door: &mut A,
+    room: Room<Locked<E, O>, A::L, A::S>,
+) -> Attended<Receipt<O, E::Log>>
+    ensures attends { Attends (ServedBy (E.serves host.now.rules) E.Log.number_of) result.stop result.logs (A.view door.old) (A.view door.new) }
+    ensures few { length result.logs ≤ LINKS_PER_WATCH }
+{
+    attend(rt, host, door, room)
+}
+
+// The end of a watch whose links came to these receipts.
+fn ended<N: Watched<Turn: Drop>, J: Naming, G: Logged<Turn = N::Turn> + Drop>(
+    node: N,
+    desk: &Desk<J, G, N::Turn>,
+    attended: Attended<Receipt<J, G>>,
+) -> WatchEnd<N>
+    requires few { length attended.logs ≤ LINKS_PER_WATCH }
+    requires keeps { IsKept N.Turn.link_of G.number_of G.turns_of desk.now (N.turns_of node) }
+    ensures gives { IfReport result (λ now report. (now ≡ node) × (report.links ≡ length attended.logs) × (report.shut ≡ is_shut attended.stop)) }
+    ensures ends { (differs : Option Differ) × EndsBy N.broken attended.stop differs result
+        × ((logs : List G) → AreOf G.number_of logs attended.logs → Compares N.Turn.link_of G.number_of G.turns_of logs (N.turns_of node) differs) }
+    ensures reported { IsReported result }
+{
+    let Attended { stop, logs } = attended;
+    let links = logs.as_slice().len() as u32;
+    let differ = differ_of(desk, logs.as_slice(), links);
+    end_of(node, differ, stop, links)
 }

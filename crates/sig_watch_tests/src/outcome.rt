@@ -4,7 +4,7 @@ use sig_json::Bytes;
 use sig_watch::{Report, WatchEnd};
 
 /// The node of a watch, and the report of one that is done.
-pub fn outcome_of<N, G: Drop>(end: WatchEnd<N, G>) -> (N, Option<Report<G>>) {
+pub fn outcome_of<N>(end: WatchEnd<N>) -> (N, Option<Report>) {
     match end {
         WatchEnd::Done { node, report } => (node, Some(report)),
         WatchEnd::DoorFault { node, report: _ } => (node, None),

@@ -96,9 +96,7 @@ fn written_to<R: Threads + Wait + Sync>(
     let (node, report) = outcome_of(end);
     let _ = node.into_disks();
     match report {
-        Some(report) if report.shut && report.links.as_slice().len() == count => {
-            Ok(door.into_written())
-        }
+        Some(report) if report.shut && report.links as usize == count => { Ok(door.into_written()) }
         _ => Err(Memory),
     }
 }
@@ -158,7 +156,7 @@ fn a_broken_node_is_asked_for_no_further_link(rt: HostRuntime) -> Result<(), Fai
     let broken = match watch_receiver(alloc, &rt, node, &mut door) {
         WatchEnd::Broken { node, report } => {
             let _ = node.into_disks();
-            !report.shut && report.links.as_slice().len() + door.plans.len() == 3
+            !report.shut && report.links as usize + door.plans.len() == 3
         }
         end => {
             let (node, _) = outcome_of(end);

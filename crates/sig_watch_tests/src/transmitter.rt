@@ -113,9 +113,7 @@ fn written_to<R: Threads + Wait + Sync>(
     let (node, report) = outcome_of(end);
     let _ = node.into_disks();
     match report {
-        Some(report) if report.shut && report.links.as_slice().len() == count => {
-            Ok(door.into_written())
-        }
+        Some(report) if report.shut && report.links as usize == count => { Ok(door.into_written()) }
         _ => Err(Memory),
     }
 }

@@ -2,7 +2,6 @@
 
 ghost use Rattle.std.specs.Prelude.{◌≡◌, None};
 
-use sig_link::LinkLog;
 use sig_links::Door;
 use sig_outside::Disk;
 use sig_rxend::Receiver;
@@ -20,7 +19,7 @@ pub fn watch_transmitter<R: Threads + Wait + Sync, D: Disk + Send, A: Door>(
     rt: &R,
     node: TxNode<D>,
     door: &mut A,
-) -> WatchEnd<TxNode<D>, LinkLog<Turn>>
+) -> WatchEnd<TxNode<D>>
     requires { node.store.broken_at ≡ None }
 {
     serve_watch::<Transmitter<D>, R, A>(alloc, rt, node, door)
@@ -32,7 +31,7 @@ pub fn watch_receiver<R: Threads + Wait + Sync, D: Disk + Send, A: Door>(
     rt: &R,
     node: RxNode<D>,
     door: &mut A,
-) -> WatchEnd<RxNode<D>, LinkLog<RxTurn>>
+) -> WatchEnd<RxNode<D>>
     requires { node.kept.store.broken_at ≡ None }
 {
     serve_watch::<Receiver<D>, R, A>(alloc, rt, node, door)

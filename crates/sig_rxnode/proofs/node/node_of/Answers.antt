@@ -12,5 +12,5 @@ invariant_of-result g c =
     record {
       holds = c.requires.holds;
       trusts = c.in-Ok.ensures;
-      history = fresh D.told D.seen D.may_leave node c.requires.holds opened c.new.ensures.items c.requires.fresh.0 c.requires.fresh.1;
+      history = fresh D.told D.seen D.may_leave node c.requires.holds opened c.new.ensures c.requires.fresh.0 c.requires.fresh.1;
     }

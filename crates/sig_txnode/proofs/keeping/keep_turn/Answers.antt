@@ -1,10 +1,10 @@
-use Rattle.std.proofs.Common.{◌≡◌, ◌∙◌, ◌+◌, ◌++◌, sym, subst, ap, rules, ℕ, List, [], ◌∷◌, length, Option, Result, Ok, Err, append-nil}
+use Rattle.std.proofs.Common.{◌∙◌, ◌++◌, sym, subst, ap, ℕ, Option, Result, Ok, Err, append-nil}
 use Rattle.std.specs.Option.{option_to_list}
 use Rattle.sig_terms.specs.declared.answer.Answer.{Answer}
 use Rattle.sig_terms.specs.declared.fact.Fact.{Fact}
 use Rattle.sig_journal.specs.declared.node_fault.NodeFault.{NodeFault}
-use Rattle.sig_txnode.specs.declared.turn.Turn.{Turn}
 use Rattle.sig_txnode.specs.Taken.{Refused}
+use Rattle.sig_txnode.specs.Turns.{with_turn}
 use Rattle.sig_txnode.proofs.keeping.keep_turn.Goals as goal
 
 pub returns-in-Ok-clause-answered : goal.returns-in-Ok-clause-answered
@@ -12,8 +12,10 @@ returns-in-Ok-clause-answered g c = c.in-Ok.ensures.answered
 
 pub returns-in-Ok-clause-turns : goal.returns-in-Ok-clause-turns
 returns-in-Ok-clause-turns g c =
-    let with : Answer → List Turn = λ a. record { link = c.args.link; call = c.args.call; now = c.args.time; result = Ok a } ∷ [] in
-    c.push_reserved.ensures.items ∙ ap (λ (a : Answer). c.args.held.now.turns.items ++ with a) c.in-Ok.ensures.given.answer
+    c.put_turn.ensures.turns ∙ ap (λ (a : Answer). with_turn c.args.held.now.turns.items c.args.link c.args.call c.args.time (Ok a)) c.in-Ok.ensures.given.answer
+
+pub returns-in-Ok-clause-turn : goal.returns-in-Ok-clause-turn
+returns-in-Ok-clause-turn g c = c.put_turn.ensures.turn
 
 pub returns-in-Ok-clause-entries : goal.returns-in-Ok-clause-entries
 returns-in-Ok-clause-entries g c =
@@ -27,15 +29,17 @@ returns-in-Ok-clause-lasts g c = c.in-Ok.ensures.lasts
 
 pub returns-in-Ok-clause-refused : goal.returns-in-Ok-clause-refused
 returns-in-Ok-clause-refused g c =
-    let count : c.len.result ≡ length c.args.held.now.turns.items = search rules in
     let result : Result Answer NodeFault = Ok c.in-Ok.given.answer in
-    subst (λ (n : ℕ). Refused g.D.Disk.faults c.args.held.now.store c.answer_call.new.store (n + 1) result) count c.in-Ok.ensures.refused
+    subst (λ (n : ℕ). Refused g.D.Disk.faults c.args.held.now.store c.answer_call.new.store n result) c.next_number-number.ensures c.in-Ok.ensures.refused
 
 pub returns-in-Err-clause-answered : goal.returns-in-Err-clause-answered
 returns-in-Err-clause-answered g c = c.in-Err.ensures.answered
 
 pub returns-in-Err-clause-turns : goal.returns-in-Err-clause-turns
-returns-in-Err-clause-turns g c = c.keep_refusal.ensures
+returns-in-Err-clause-turns g c = c.put_turn-in-Err.ensures.turns
+
+pub returns-in-Err-clause-turn : goal.returns-in-Err-clause-turn
+returns-in-Err-clause-turn g c = c.put_turn-in-Err.ensures.turn
 
 pub returns-in-Err-clause-entries : goal.returns-in-Err-clause-entries
 returns-in-Err-clause-entries g c = sym (append-nil c.args.held.now.entries.items)
@@ -48,6 +52,5 @@ returns-in-Err-clause-lasts g c = c.in-Err.ensures.lasts
 
 pub returns-in-Err-clause-refused : goal.returns-in-Err-clause-refused
 returns-in-Err-clause-refused g c =
-    let count : c.len.result ≡ length c.args.held.now.turns.items = search rules in
     let result : Result Answer NodeFault = Err c.in-Err.fault in
-    subst (λ (n : ℕ). Refused g.D.Disk.faults c.args.held.now.store c.answer_call.new.store (n + 1) result) count c.in-Err.ensures.refused
+    subst (λ (n : ℕ). Refused g.D.Disk.faults c.args.held.now.store c.answer_call.new.store n result) c.next_number-number.ensures c.in-Err.ensures.refused

@@ -17,17 +17,21 @@ use Rattle.sig_txnode.proofs.keeping.take_turn.Goals as goal
 pub returns-in-Ok-clause-answered : goal.returns-in-Ok-clause-answered
 returns-in-Ok-clause-answered g c =
     let sum = c.args.held.now.outbox.sum in
-    subst (λ (k : Call). Answered (answer_at c.args.rules.now sum c.args.held.now.store.journal.end k c.args.time) (change_of c.args.rules.now sum k c.args.time) c.args.held.now.store.broken_at sum c.keep_turn.new.held.outbox.sum c.keep_turn.result)
+    subst (λ (k : Call). Answered (answer_at c.args.rules.now sum c.args.held.now.store.journal.end k c.args.time) (change_of c.args.rules.now sum k c.args.time) c.args.held.now.store.broken_at sum c.keep_turn.new.held.outbox.sum c.keep_turn.result.result)
     c.in-Ok.ensures.copied c.keep_turn.ensures.answered
 
 pub returns-in-Ok-clause-turns : goal.returns-in-Ok-clause-turns
 returns-in-Ok-clause-turns g c =
-    c.keep_turn.ensures.turns ∙ ap (λ (l : List Turn). with_turn l c.args.link c.in-Ok.asked c.args.time c.keep_turn.result) c.make_room.ensures.turns
-    ∙ ap (λ (k : Call). with_turn c.args.held.now.turns.items c.args.link k c.args.time c.keep_turn.result) c.in-Ok.ensures.copied
+    c.keep_turn.ensures.turns ∙ ap (λ (l : List Turn). with_turn l c.args.link c.in-Ok.asked c.args.time c.keep_turn.result.result) c.make_room.ensures.turns
+    ∙ ap (λ (k : Call). with_turn c.args.held.now.turns.items c.args.link k c.args.time c.keep_turn.result.result) c.in-Ok.ensures.copied
+
+pub returns-in-Ok-clause-turn : goal.returns-in-Ok-clause-turn
+returns-in-Ok-clause-turn g c =
+    c.keep_turn.ensures.turn ∙ ap (λ (l : List Turn). l ++ option_to_list c.keep_turn.result.turn) c.make_room.ensures.turns
 
 pub returns-in-Ok-clause-entries : goal.returns-in-Ok-clause-entries
 returns-in-Ok-clause-entries g c =
-    let change = λ (k : Call). option_to_list (when_ok c.keep_turn.result (change_of c.args.rules.now c.args.held.now.outbox.sum k c.args.time)) in
+    let change = λ (k : Call). option_to_list (when_ok c.keep_turn.result.result (change_of c.args.rules.now c.args.held.now.outbox.sum k c.args.time)) in
     c.keep_turn.ensures.entries ∙ ap (λ (l : List Fact). l ++ change c.in-Ok.asked) c.make_room.ensures.entries
     ∙ ap (λ (k : Call). c.args.held.now.entries.items ++ change k) c.in-Ok.ensures.copied
 
@@ -38,12 +42,12 @@ pub returns-in-Ok-clause-lasts : goal.returns-in-Ok-clause-lasts
 returns-in-Ok-clause-lasts g c =
     let D = g.D.Disk in
     let sum = c.args.held.now.outbox.sum in
-    subst (λ (k : Call). Lasts D.told D.seen D.may_leave D.moment D.left_since D.stop D.short c.args.held.now.store c.keep_turn.new.held.store sum (change_of c.args.rules.now sum k c.args.time) c.keep_turn.result)
+    subst (λ (k : Call). Lasts D.told D.seen D.may_leave D.moment D.left_since D.stop D.short c.args.held.now.store c.keep_turn.new.held.store sum (change_of c.args.rules.now sum k c.args.time) c.keep_turn.result.result)
     c.in-Ok.ensures.copied c.keep_turn.ensures.lasts
 
 pub returns-in-Ok-clause-refused : goal.returns-in-Ok-clause-refused
 returns-in-Ok-clause-refused g c =
-    subst (λ (l : List Turn). Refused g.D.Disk.faults c.args.held.now.store c.keep_turn.new.held.store (length l + 1) c.keep_turn.result) c.make_room.ensures.turns c.keep_turn.ensures.refused
+    subst (λ (l : List Turn). Refused g.D.Disk.faults c.args.held.now.store c.keep_turn.new.held.store (length l + 1) c.keep_turn.result.result) c.make_room.ensures.turns c.keep_turn.ensures.refused
 
 pub returns-in-Err-clause-answered : goal.returns-in-Err-clause-answered
 returns-in-Err-clause-answered g c =
@@ -51,6 +55,9 @@ returns-in-Err-clause-answered g c =
 
 pub returns-in-Err-clause-turns : goal.returns-in-Err-clause-turns
 returns-in-Err-clause-turns g c = c.make_room.ensures.turns
+
+pub returns-in-Err-clause-turn : goal.returns-in-Err-clause-turn
+returns-in-Err-clause-turn g c = c.make_room.ensures.turns ∙ sym (append-nil c.args.held.now.turns.items)
 
 pub returns-in-Err-clause-entries : goal.returns-in-Err-clause-entries
 returns-in-Err-clause-entries g c = c.make_room.ensures.entries ∙ sym (append-nil c.args.held.now.entries.items)

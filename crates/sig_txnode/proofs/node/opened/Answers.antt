@@ -24,7 +24,7 @@ invariant_of-result g c =
     ap (λ (n : ℕ). in_file_at n (state_after sending.step (empty_sum l.store_id) (35 + length l.snapshot) l.records)) (sym c.requires.file) ∙ c.in-Ok.ensures.state in
     let loads : BothTold D.told l.journal → loaded sending (told_store D.seen l.journal) ≡ Ok state = λ both. ap (loaded sending) (c.requires.told both) ∙ comes in
     new_node D.told D.seen D.may_leave c.open.result c.args.rules state c.of.result.value.sum c.new.result.items c.new-in-Ok.result.items
-    c.requires.rules c.in-Ok.ensures.whole (ap (λ o. o.sum) c.of.ensures) c.new.ensures c.new-in-Ok.ensures.items
+    c.requires.rules c.in-Ok.ensures.whole (ap (λ o. o.sum) c.of.ensures) c.new.ensures c.new-in-Ok.ensures
     (ap (λ (s : Stored g.row.D.Denot). s.broken_at) c.open.ensures) (ap (λ (s : Stored g.row.D.Denot). s.journal.kind) c.open.ensures ∙ c.requires.opens.kind_same)
     (subst (λ (s : Stored g.row.D.Denot). StandsFor sending D.told D.seen D.may_leave s state) (sym c.open.ensures) (stands_loaded sending D.told D.seen D.may_leave l.journal state loads))
 
@@ -35,7 +35,7 @@ returns-in-Ok-clause-begins g c =
       same_rules = refl;
       base = ap (λ o. o.sum) c.of.ensures;
       entries = c.new.ensures;
-      turns = c.new-in-Ok.ensures.items;
+      turns = c.new-in-Ok.ensures;
       kind = ap (λ (s : Stored g.row.D.Denot). s.journal.kind) c.open.ensures ∙ c.requires.opens.kind_same;
       whole = ap (λ (s : Stored g.row.D.Denot). s.broken_at) c.open.ensures;
       rests = subst (λ (s : Stored g.row.D.Denot). IsAtRest D.told D.seen D.may_leave s.journal) (sym c.open.ensures) c.requires.opens.rests;

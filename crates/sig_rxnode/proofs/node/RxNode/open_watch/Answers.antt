@@ -13,5 +13,5 @@ invariant_of-self g c =
     record {
       holds = c.self.invariant.holds;
       trusts = c.self.invariant.trusts;
-      history = fresh D.told D.seen D.may_leave node c.self.invariant.holds opened c.new.ensures.items whole c.self.invariant.history.kind;
+      history = fresh D.told D.seen D.may_leave node c.self.invariant.holds opened c.new.ensures whole c.self.invariant.history.kind;
     }
