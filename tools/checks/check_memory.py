@@ -14,9 +14,9 @@ import re
 import socket
 import sys
 import tempfile
-import threading
 import time
 import uuid
+from concurrent.futures import ThreadPoolExecutor
 
 sys.dont_write_bytecode = True
 sys.path.insert(0, os.path.join(os.path.dirname(os.path.abspath(__file__)), ".."))
@@ -48,15 +48,9 @@ def link(server):
 
 def links(server, count):
     """So many connections, side by side."""
-    def some():
-        for _ in range(count // CLIENTS):
-            link(server)
-
-    threads = [threading.Thread(target=some) for _ in range(CLIENTS)]
-    for thread in threads:
-        thread.start()
-    for thread in threads:
-        thread.join()
+    with ThreadPoolExecutor(CLIENTS) as pool:
+        # what fails in a client is raised here
+        list(pool.map(lambda _: link(server), range(count)))
 
 
 def main():
