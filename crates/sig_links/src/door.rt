@@ -42,6 +42,10 @@ pub trait Door {
         ensures others { ((view self.new).coming ≡ (view self.old).coming) × ((view self.new).place ≡ (view self.old).place) }
         ensures faults { (view self.new).faults ≡ (view self.old).faults };
 
+    /// A side beside no link, for what a server does by itself. It isn't given back, and nothing of it is told.
+    fn own_side(&mut self) -> Self::S
+        ensures { view self.new ≡ view self.old };
+
     /// Asks the links that are out to end soon, since none is accepted until they have. It changes nothing that is told.
     fn hurry(&mut self)
         ensures { view self.new ≡ view self.old };

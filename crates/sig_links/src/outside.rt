@@ -126,6 +126,15 @@ pub trait Outside {
         ensures sides { (sides self.new ≡ sides self.old) × (sides_out self.new ≡ sides_out self.old) × (sides_back self.new ≡ sides_back self.old) }
         ensures cause { HasCause (network_faults self.old) (network_faults self.new) result };
 
+    /// Tells a line, which needs no end of line, to whoever runs the program. No contract says that it comes, and it changes
+    /// nothing that is told.
+    fn note(&mut self, line: &str)
+        ensures settings { (settings_of self.new ≡ settings_of self.old) × (settings_faults self.new ≡ settings_faults self.old) }
+        ensures stores { (held self.new ≡ held self.old) × (lent self.new ≡ lent self.old) × (store_faults self.new ≡ store_faults self.old) × (there self.new ≡ there self.old) }
+        ensures doors { (doors self.new ≡ doors self.old) × (doors_out self.new ≡ doors_out self.old) × (doors_back self.new ≡ doors_back self.old) }
+        ensures sides { (sides self.new ≡ sides self.old) × (sides_out self.new ≡ sides_out self.old) × (sides_back self.new ≡ sides_back self.old) }
+        ensures network { network_faults self.new ≡ network_faults self.old };
+
     /// A side that dials and tells the time.
     fn side(&mut self) -> <Self::A as Door>::S
         ensures next { HandsNext (sides self.old) (sides self.new) (Self.A.S.view result).ahead (Self.A.S.view result).times }

@@ -40,6 +40,13 @@ pub trait Side {
         ensures view { view self.new ≡ view self.old }
         ensures out { out self.new ≡ out self.old };
 
+    /// Tells a line, which needs no end of line, to whoever runs the program. Of the lines about one topic at most one a minute
+    /// is told, with how many were left out since; a line without a topic always is. No contract says that it comes, and it
+    /// changes nothing that is told.
+    fn note(&mut self, topic: Option<&str>, line: &str)
+        ensures view { view self.new ≡ view self.old }
+        ensures out { out self.new ≡ out self.old };
+
     /// The time now, in seconds since the start of 1970.
     fn now(&mut self) -> u64
         ensures time { GivesTime (view self.old).times (view self.new).times result }

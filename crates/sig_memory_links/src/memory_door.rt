@@ -16,6 +16,7 @@ use std::marker::Model;
 /// refused memory fails.
 #[derive(Drop)]
 pub struct MemDoor {
+    alloc: Global,
     place: Option<Place>,
     coming: Vec<Coming>,
     lent: Lent<Coming>,
@@ -40,6 +41,7 @@ impl MemDoor {
         ensures { result ≡ record { place = None; coming = links; lent = record { back = []; out = 0 }; plan = record { numbers = failing; calls = 0 }; faults = 0 } }
     {
         MemDoor {
+            alloc,
             place: None,
             coming: links.into_vec(),
             lent: Lent::new(alloc),
@@ -117,6 +119,10 @@ impl Door for MemDoor {
 
     fn back(&mut self, link: MemLink, side: MemSide) {
         self.lent.take_back(Coming { link, side });
+    }
+
+    fn own_side(&mut self) -> MemSide {
+        MemSide::idle(self.alloc)
     }
 
     // A link in memory waits for nobody.

@@ -230,10 +230,13 @@ impl Outside for MemOutside {
         }
     }
 
+    // Nobody runs it.
+    fn note(&mut self, _line: &str) {}
+
     fn side(&mut self) -> MemSide {
         match self.sides.take() {
             Some(side) => side,
-            None => last_side(self.alloc),
+            None => MemSide::idle(self.alloc),
         }
     }
 
@@ -246,13 +249,4 @@ impl Outside for MemOutside {
         self.network_faults.gather(side.faults());
         self.sides.take_back(side);
     }
-}
-
-// A side after the last one.
-fn last_side(alloc: Global) -> MemSide
-    ensures { result ≡ record { ahead = []; lent = record { back = []; out = 0 }; times = []; plan = record { numbers = []; calls = 0 }; faults = 0 } }
-{
-    let links = Items::of(Vec::new(alloc));
-    let times = Items::of(Vec::new(alloc));
-    MemSide::new(alloc, links, times, Items::of(Vec::new(alloc)))
 }

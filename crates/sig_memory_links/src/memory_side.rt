@@ -54,6 +54,15 @@ impl MemSide {
         }
     }
 
+    /// A side that has no link ahead and no time.
+    pub(crate) fn idle(alloc: Global) -> MemSide
+        ensures { result ≡ record { ahead = []; lent = record { back = []; out = 0 }; times = []; plan = record { numbers = []; calls = 0 }; faults = 0 } }
+    {
+        let links = Items::of(Vec::new(alloc));
+        let times = Items::of(Vec::new(alloc));
+        MemSide::new(alloc, links, times, Items::of(Vec::new(alloc)))
+    }
+
     /// The links that were given back, in order.
     pub fn back(&self) -> &[MemLink]
         ensures { result.now ≡ self.now.lent.back }
@@ -128,6 +137,9 @@ impl Side for MemSide {
 
     // A side in memory has no bound in time.
     fn begin_round(&mut self) {}
+
+    // Nobody runs a side in memory.
+    fn note(&mut self, _topic: Option<&str>, _line: &str) {}
 
     fn now(&mut self) -> u64 {
         if self.times.len() > 1 {

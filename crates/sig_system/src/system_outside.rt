@@ -63,7 +63,12 @@ impl<R> SystemOutside<R> {
 }
 
 impl<
-    R: Net<Listener = TcpListener, Stream = TcpStream> + Files<File = File> + Clock + Copy + Send,
+    R: Net<Listener = TcpListener, Stream = TcpStream>
+        + Files<File = File>
+        + Clock
+        + Eprint
+        + Copy
+        + Send,
 > Outside for SystemOutside<R> {
     type I = ReaderSource<File>;
 
@@ -165,6 +170,10 @@ impl<
                 Err(self.network.raise())
             }
         }
+    }
+
+    fn note(&mut self, line: &str) {
+        let _ = eprintln!(self.rt; "{line}");
     }
 
     fn side(&mut self) -> TcpSide<R> {

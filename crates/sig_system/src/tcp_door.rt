@@ -161,7 +161,8 @@ impl<R: Clock + Copy> TcpDoor<R> {
     }
 }
 
-impl<R: Net<Listener = TcpListener, Stream = TcpStream> + Clock + Copy + Send> Door for TcpDoor<R> {
+impl<R: Net<Listener = TcpListener, Stream = TcpStream> + Clock + Eprint + Copy + Send> Door
+    for TcpDoor<R> {
     type L = TcpLink<R>;
 
     type S = TcpSide<R>;
@@ -188,6 +189,10 @@ impl<R: Net<Listener = TcpListener, Stream = TcpStream> + Clock + Copy + Send> D
     }
 
     fn back(&mut self, _link: TcpLink<R>, _side: TcpSide<R>) {}
+
+    fn own_side(&mut self) -> TcpSide<R> {
+        TcpSide::new(self.alloc, self.rt)
+    }
 
     fn hurry(&mut self) {
         self.bell.ring();

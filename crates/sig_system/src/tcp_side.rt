@@ -61,7 +61,7 @@ impl<R> TcpSide<R> {
     }
 }
 
-impl<R: Net<Stream = TcpStream> + Clock + Copy> Side for TcpSide<R> {
+impl<R: Net<Stream = TcpStream> + Clock + Eprint + Copy> Side for TcpSide<R> {
     type L = TcpLink<R>;
 
     ghost view = { λ s. record { ahead = None; times = None; sent = None; faults = s } };
@@ -85,6 +85,10 @@ impl<R: Net<Stream = TcpStream> + Clock + Copy> Side for TcpSide<R> {
         if let Ok(now) = Instant::now(&self.rt) {
             self.round = Some(now);
         }
+    }
+
+    fn note(&mut self, _topic: Option<&str>, line: &str) {
+        let _ = eprintln!(self.rt; "{line}");
     }
 
     // Where the clock can't be read, it is the last time again, 0 at first.

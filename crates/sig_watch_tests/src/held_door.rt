@@ -71,5 +71,9 @@ impl<'a> Door for HeldDoor<'a> {
         let _ = self.written.push(link.into_written());
     }
 
+    fn own_side(&mut self) -> StillSide<'a> {
+        StillSide::new()
+    }
+
     fn hurry(&mut self) {}
 }

@@ -44,6 +44,8 @@ impl<'a> Side for StillSide<'a> {
     // It dials nothing, so nothing takes time.
     fn begin_round(&mut self) {}
 
+    fn note(&mut self, _topic: Option<&str>, _line: &str) {}
+
     fn now(&mut self) -> u64 {
         1_700_000_000
     }
