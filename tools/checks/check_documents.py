@@ -248,6 +248,33 @@ def check_contract(section, cell, homes, words):
                 tell("docs/PROMISES.md", f"{section}: no {word} in the sources that a contract names ({code})")
 
 
+def spelled_line(definition):
+    """A line as the table has it, from the parts that its definition puts together."""
+    line = ""
+    for part in definition.split("++"):
+        literal = re.match(r'codes "(.*)"$', part.strip())
+        name = part.split()[-1]
+        line += literal.group(1) if literal else f"<{name}>"
+    return line
+
+
+def check_lines(text):
+    """The lines on standard error, and the words of their causes, are those that `sig_notes` defines."""
+    spelled = text_of("crates/sig_notes/specs/Lines.antt")
+    definitions = re.findall(r"^(\w+) ([\w ]+) =\s+(.*)$", spelled, re.M)
+    wanted = {spelled_line(definition) for name, _, definition in definitions if "codes" in definition and name != "or_dash"}
+    section = re.split(r"^## ", text, flags=re.M)
+    section = next((part for part in section if part.startswith("Lines on standard error\n")), "")
+    table = {cells(line)[0].strip("`") for line in section.splitlines() if line.startswith("| `") and len(cells(line)) == 3}
+    for line in sorted(wanted ^ table):
+        tell("docs/FORMATS.md", f"the line '{line}' stands in one of the table and crates/sig_notes/specs/Lines.antt alone")
+    for kind in ("push", "link", "end"):
+        words = re.findall(rf'^{kind}_text {kind}\.\w+ = codes "(.*)"$', spelled, re.M)
+        listed = re.search(rf"^\| `{kind}` \| (.*) \|$", section, re.M)
+        if not listed or re.findall(r"`(.*?)`", listed.group(1)) != words:
+            tell("docs/FORMATS.md", f"the causes of '{kind}' are {words} in crates/sig_notes/specs/Lines.antt")
+
+
 def main():
     for document in DOCUMENTS:
         text = text_of(document)
@@ -262,6 +289,7 @@ def main():
     check_help(text_of("signals"))
     check_ways(text_of("docs/ARCHITECTURE.md"))
     check_promises(text_of("docs/PROMISES.md"))
+    check_lines(text_of("docs/FORMATS.md"))
     print("\n".join(faults) or "documents: ok")
     sys.exit(1 if faults else 0)
 

@@ -71,18 +71,24 @@ class Served:
     def start(self, before=None, wait=10):
         """Starts it, and waits at most so many seconds until it listens."""
         words = [self.program, self.word, self.settings, self.store, "1000000"]
-        self.running = subprocess.Popen(words, stdout=subprocess.PIPE, stderr=subprocess.PIPE, preexec_fn=before)
+        with open(f"{self.store}.lines", "ab") as lines:
+            self.running = subprocess.Popen(words, stdout=subprocess.PIPE, stderr=lines, preexec_fn=before)
         # where a check fails, no server is left behind
         atexit.register(self.running.kill)
         for _ in range(wait * 50):
             if self.running.poll() is not None:
-                fail(f"the server ended with {self.running.returncode}: {self.running.communicate()}")
+                fail(f"the server ended with {self.running.returncode}: {self.running.communicate()[0]} {self.lines()}")
             try:
                 socket.create_connection(("127.0.0.1", self.port), 1).close()
                 return
             except OSError:
                 time.sleep(0.02)
         fail("the server doesn't listen")
+
+    def lines(self):
+        """The lines on standard error of all its runs."""
+        with open(f"{self.store}.lines", encoding="ascii") as file:
+            return file.read().splitlines()
 
     def ended(self, seconds):
         """The status and the output of a server that ends by itself within so many seconds."""

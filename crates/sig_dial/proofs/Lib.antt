@@ -1,2 +1,3 @@
 pub mod ExchangeLemmas
 pub mod AskLemmas
+pub mod StoppingLemmas

@@ -1,3 +1,4 @@
 pub mod Interim
 pub mod Exchanged
 pub mod Asked
+pub mod Reading

@@ -3,9 +3,12 @@
 ghost use Rattle.std.specs.Prelude.{◌≡◌, ◌⊎◌, ◌++◌, IfErr, IfOk, IfSome};
 ghost use Rattle.sig_http.specs.Message.{ReadsResponseOf};
 ghost use Rattle.sig_http.specs.Spelling.{request_spelling};
+ghost use Rattle.sig_http.specs.Taking.{IsOpenResponse, Takes, TakesAtMost, taken_bytes};
+ghost use Rattle.sig_json.specs.declared.limits.TheConstants.{RESPONSE_BODY_BYTES};
 ghost use Rattle.sig_dial.specs.Exchanged as spec;
 ghost use Rattle.sig_dial.specs.Exchanged.{Decides, ReadsNothing, StopsBefore, Tallies, Writes, WritesAll};
 ghost use Rattle.sig_dial.specs.Interim as interim;
+ghost use Rattle.sig_dial.specs.Reading.{StopsReading, exchange_bytes};
 
 use crate::AskFault;
 use crate::limits::INTERIM_RESPONSES;
@@ -39,6 +42,12 @@ pub fn exchange<L: Link>(
     ensures awaits { ReadsNothing (L.left link.old) (L.left link.new) (L.Source.faults link.old) (L.Source.faults link.new)
         ⊎ WritesAll (request_spelling host.now request.now kind.now language)
         (L.written link.old) (L.written link.new) (L.Sink.faults link.old) (L.Sink.faults link.new) }
+
+    // No piece is read after the one that decides the response, whatever is answered.
+    ensures stops { IfSome (L.left link.old) (λ bytes. StopsReading bytes (L.left link.new)) }
+
+    // And so no more than these bytes are read.
+    ensures most { TakesAtMost exchange_bytes (L.left link.old) (L.left link.new) }
 {
     match write_request(alloc, link, host, request, kind, language) {
         Ok(()) => response_of(alloc, link),
@@ -48,6 +57,8 @@ pub fn exchange<L: Link>(
 
 // The response to a request at the start of what a link gives, behind the interim ones.
 fn response_of<L: Link>(alloc: Global, link: &mut L) -> Result<Response, AskFault>
+    ensures stops { IfSome (L.left link.old) (λ bytes. StopsReading bytes (L.left link.new)) }
+    ensures most { TakesAtMost exchange_bytes (L.left link.old) (L.left link.new) }
     ensures decides { IfSome (L.left link.old) (λ bytes. Decides bytes result) }
     ensures tallies { Tallies (L.Source.faults link.old) (L.Source.faults link.new) (L.Sink.faults link.old) (L.Sink.faults link.new) result }
     ensures puts { L.Sink.faults link.new ≡ L.Sink.faults link.old }
@@ -73,6 +84,8 @@ fn next_response<L: Link>(
     kept: &mut Kept,
 ) -> Result<Response, AskFault>
     ensures found { IfOk result (λ response. IfSome (L.left link.old) (λ left. ReadsResponseOf (kept.old ++ left) response kept.new (L.left link.new))) }
+    ensures takes { Takes IsOpenResponse kept.old (L.left link.old) (L.left link.new) }
+    ensures most { TakesAtMost (taken_bytes RESPONSE_BODY_BYTES) (L.left link.old) (L.left link.new) }
     ensures none { IfErr result (λ fault. IfSome (L.left link.old) (λ left. StopsBefore (kept.old ++ left) fault)) }
     ensures tallies { Tallies (L.Source.faults link.old) (L.Source.faults link.new) (L.Sink.faults link.old) (L.Sink.faults link.new) result }
     ensures puts { L.Sink.faults link.new ≡ L.Sink.faults link.old }

@@ -11,7 +11,7 @@ ghost use Rattle.sig_fetch.specs.declared.fetched.Fetched.{Fetched};
 
 use crate::asking::{ask_after, place_of};
 use crate::counting::counted_on;
-use crate::rounding::round;
+use crate::noting::round;
 use crate::{FetchFault, Fetched};
 use sig_links::Side;
 use sig_outside::{Disk, Place};

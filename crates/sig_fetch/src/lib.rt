@@ -21,6 +21,7 @@ mod counting;
 mod fault;
 mod fetched;
 mod fetching;
+mod noting;
 mod reading;
 mod rounding;
 mod taking;

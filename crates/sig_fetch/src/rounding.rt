@@ -8,10 +8,10 @@ ghost use Rattle.sig_fetch.specs.Turns.{Halts};
 
 use crate::FetchFault;
 use crate::asking::{poll_request, reports};
+use crate::noting::ask;
 use crate::reading::page_in;
 use crate::taking::take_all;
 use sig_delivery::Listed;
-use sig_dial::ask;
 use sig_links::Side;
 use sig_outside::{Disk, Place};
 use sig_rxnode::{Peer, RxNode, RxTurn};

@@ -1,5 +1,5 @@
 -- A body that is read piece by piece.
-use Rattle.std.proofs.Common.{◌≡◌, ◌≤◌, ◌<◌, ℕ, List, [], ◌∷◌, ◌++◌, length, take, drop, Option, refl, sym, ◌∙◌, ap, append_assoc, arith, if◌then◌else◌}
+use Rattle.std.proofs.Common.{◌≡◌, ◌≤◌, ◌<◌, ℕ, List, [], ◌∷◌, ◌++◌, inr, length, take, drop, Option, refl, sym, ◌∙◌, ap, append_assoc, arith, if◌then◌else◌}
 use Rattle.std.specs.Io.KnownBytes.{Consumes, IsAtEnd}
 use Rattle.std.proofs.lemmas.Bool.{le-leb, lt-leb}
 use Rattle.std.proofs.KnownBytes.{Consumes-trans}
@@ -8,6 +8,9 @@ use Rattle.sig_http.specs.Pieces.{Draws}
 use Rattle.sig_http.specs.Chunks.{Stands, Holds, Fails, chunks_from, first}
 use Rattle.sig_http.specs.Message.{Whole, Broken, Unfinished, body_of, outcome_of}
 use Rattle.sig_http.specs.Bodies.{EndsBody, BreaksBody, CutsBody}
+use Rattle.sig_http.specs.Taking.{IsAwaited, IsOpenBody, Takes}
+use Rattle.sig_http.specs.declared.limits.TheConstants.{PIECE_BYTES}
+use Rattle.sig_http.proofs.TakingLemmas.{piece_few}
 use Rattle.sig_http.specs.declared.body.Body.{Body}
 use Rattle.sig_http.specs.declared.fault.HttpFault.{HttpFault}
 use Rattle.sig_http.specs.declared.fault.HttpFault.TheVariants as faults
@@ -32,6 +35,10 @@ length_ends limit n held all body l m p enough content rest = record {
       ∙ ap (λ c. Whole c (drop n all)) (sym content) ∙ ap (Whole body.content.items) (sym rest);
   ends = tt;
 }
+
+-- too few were
+pub length_open : (n : ℕ) (bytes : List ℕ) → length bytes < n → IsOpenBody 0 (framings.Length n) bytes
+length_open n bytes short = ap (λ b. if b then Whole (take n bytes) (drop n bytes) else Unfinished) (lt-leb n (length bytes) short)
 
 -- the source ended before
 pub length_cut : (limit n : ℕ) (held all : List ℕ) (l m : Option (List ℕ)) → Draws held all l m → length all < n → IsAtEnd m → CutsBody limit (framings.Length n) held l m
@@ -71,17 +78,23 @@ pub record Chunking (limit : ℕ) (held : List ℕ) (standing : Standing) (conte
   pub more : List ℕ
   pub gave : Consumes l m more
   pub told : chunks_from limit (first limit) [] (held ++ more) ≡ chunks_from limit standing content now
+  pub awaited : IsAwaited (IsOpenBody limit framings.Chunks) held more
 
 -- a further piece
 pub chunking_on : (limit : ℕ) (held : List ℕ) (standing next : Standing) (content so_far now piece : List ℕ) (l m n : Option (List ℕ)) → Chunking limit held standing content now l m
-    → chunks_from limit standing content now ≡ Stands next so_far → Draws [] piece m n → Chunking limit held next so_far piece l n
-chunking_on limit held standing next content so_far now piece l m n p stands draws = record {
+    → chunks_from limit standing content now ≡ Stands next so_far → Draws [] piece m n → length piece ≤ PIECE_BYTES → Chunking limit held next so_far piece l n
+chunking_on limit held standing next content so_far now piece l m n p stands draws few = record {
   more = p.more ++ draws.more;
   gave = Consumes-trans l m n p.more draws.more p.gave draws.gave;
   told = ap (chunks_from limit (first limit) []) (sym (append_assoc held p.more draws.more))
       ∙ chunks_stand limit (first limit) next [] so_far (held ++ p.more) draws.more (p.told ∙ stands)
       ∙ ap (chunks_from limit next so_far) (sym draws.stands);
+  awaited = inr (p.more, draws.more, refl, piece_few [] piece m n draws few, ap outcome_of (p.told ∙ stands));
 }
+
+-- what was taken so far was taken while the body was open
+pub chunking_takes : (limit : ℕ) (held : List ℕ) (standing : Standing) (content now : List ℕ) (l m : Option (List ℕ)) → Chunking limit held standing content now l m → Takes (IsOpenBody limit framings.Chunks) held l m
+chunking_takes limit held standing content now l m p = record { more = p.more; gave = p.gave; awaited = p.awaited }
 
 pub chunks_end : (limit place : ℕ) (held : List ℕ) (standing : Standing) (content now : List ℕ) (body : Body) (l m : Option (List ℕ)) → Chunking limit held standing content now l m
     → chunks_from limit standing content now ≡ Holds body.content.items (drop place now) → body.rest.items ≡ drop place now → EndsBody limit framings.Chunks held body l m
@@ -99,7 +112,7 @@ chunks_break limit held standing content now fault l m p fails = record { more =
 pub chunks_cut : (limit : ℕ) (held : List ℕ) (standing next : Standing) (content so_far now piece : List ℕ) (l m n : Option (List ℕ)) → Chunking limit held standing content now l m
     → chunks_from limit standing content now ≡ Stands next so_far → Draws [] piece m n → length piece ≡ 0 → IsAtEnd n → CutsBody limit framings.Chunks held l n
 chunks_cut limit held standing next content so_far now piece l m n p stands draws none ends =
-    let q = chunking_on limit held standing next content so_far now piece l m n p stands draws in
+    let q = chunking_on limit held standing next content so_far now piece l m n p stands draws (omega (arith, none)) in
     record {
       more = q.more;
       gave = q.gave;

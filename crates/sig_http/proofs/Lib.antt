@@ -8,6 +8,7 @@ pub mod OutcomeLemmas
 pub mod PieceLemmas
 pub mod ReadingLemmas
 pub mod SectionLemmas
+pub mod TakingLemmas
 pub mod TargetLemmas
 pub mod TextLemmas
 pub mod TokenLemmas

@@ -11,6 +11,7 @@ pub mod Pieces
 pub mod Query
 pub mod Section
 pub mod Spelling
+pub mod Taking
 pub mod Targets
 pub mod Values
 pub mod Written

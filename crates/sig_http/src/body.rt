@@ -3,6 +3,7 @@ ghost use Rattle.sig_json.specs.declared.limits.TheConstants.{RESPONSE_BODY_BYTE
 ghost use Rattle.sig_http.specs.declared.limits.TheConstants.{PIECE_BYTES};
 ghost use Rattle.sig_http.specs.Faults.{Tallies};
 ghost use Rattle.sig_http.specs.Bodies.{EndsBody, IsWithin, StopsBody};
+ghost use Rattle.sig_http.specs.Taking.{IsOpenBody, Takes};
 ghost use Rattle.sig_http.specs.declared.framing.Framing.TheVariants as framings;
 
 use crate::HttpFault;
@@ -32,6 +33,7 @@ pub fn read_body<S: Source>(
     requires within { IsWithin limit framing }
     ensures body { IfOk result (λ body. EndsBody limit framing held.items body (S.left source.old) (S.left source.new)) }
     ensures bound { IfOk result (λ body. length body.rest.items ≤ max (length held.items) PIECE_BYTES) }
+    ensures awaits { Takes (IsOpenBody limit framing) held.items (S.left source.old) (S.left source.new) }
     ensures refused { IfErr result (λ fault. StopsBody limit framing held.items fault (S.left source.old) (S.left source.new)) }
     ensures tally { IfErr result (λ fault. Tallies fault (S.faults source.old) (S.faults source.new)) }
     ensures steady { OnOk result (S.faults source.new ≡ S.faults source.old) }
@@ -54,6 +56,7 @@ fn read_length<S: Source>(
     requires { count ≤ RESPONSE_BODY_BYTES }
     ensures body { IfOk result (λ body. (limit : ℕ) → EndsBody limit (framings.Length count) held.items body (S.left source.old) (S.left source.new)) }
     ensures bound { IfOk result (λ body. length body.rest.items ≤ max (length held.items) PIECE_BYTES) }
+    ensures awaits { (limit : ℕ) → Takes (IsOpenBody limit (framings.Length count)) held.items (S.left source.old) (S.left source.new) }
     ensures refused { IfErr result (λ fault. (limit : ℕ) → StopsBody limit (framings.Length count) held.items fault (S.left source.old) (S.left source.new)) }
     ensures tally { IfErr result (λ fault. Tallies fault (S.faults source.old) (S.faults source.new)) }
     ensures steady { OnOk result (S.faults source.new ≡ S.faults source.old) }
@@ -79,6 +82,7 @@ fn read_chunked<S: Source>(
 ) -> Result<Body, HttpFault>
     ensures body { IfOk result (λ body. EndsBody limit framings.Chunks held.items body (S.left source.old) (S.left source.new)) }
     ensures bound { IfOk result (λ body. length body.rest.items ≤ max (length held.items) PIECE_BYTES) }
+    ensures awaits { Takes (IsOpenBody limit framings.Chunks) held.items (S.left source.old) (S.left source.new) }
     ensures refused { IfErr result (λ fault. StopsBody limit framings.Chunks held.items fault (S.left source.old) (S.left source.new)) }
     ensures tally { IfErr result (λ fault. Tallies fault (S.faults source.old) (S.faults source.new)) }
     ensures steady { OnOk result (S.faults source.new ≡ S.faults source.old) }
@@ -114,6 +118,7 @@ fn read_to_end<S: Source>(
     requires { limit ≤ RESPONSE_BODY_BYTES }
     ensures body { IfOk result (λ body. EndsBody limit framings.End held.items body (S.left source.old) (S.left source.new)) }
     ensures bound { IfOk result (λ body. length body.rest.items ≤ max (length held.items) PIECE_BYTES) }
+    ensures awaits { Takes (IsOpenBody limit framings.End) held.items (S.left source.old) (S.left source.new) }
     ensures refused { IfErr result (λ fault. StopsBody limit framings.End held.items fault (S.left source.old) (S.left source.new)) }
     ensures tally { IfErr result (λ fault. Tallies fault (S.faults source.old) (S.faults source.new)) }
     ensures steady { OnOk result (S.faults source.new ≡ S.faults source.old) }

@@ -1,4 +1,4 @@
-ghost use Rattle.std.specs.Prelude.{◌≡◌, ◌<◌, ◌+◌, ◌^◌, length, IfErr, IfOk, OnOk};
+ghost use Rattle.std.specs.Prelude.{◌≡◌, ◌<◌, ◌≤◌, ◌+◌, ◌^◌, length, IfErr, IfOk, OnOk};
 ghost use Rattle.sig_http.specs.Pieces.{Draws, Halts, IsPiece};
 
 use crate::HttpFault;
@@ -44,6 +44,7 @@ pub fn take_piece<S: Source>(
     requires room { length bytes.old.items + PIECE_BYTES < 2 ^ 64 }
     ensures draws { Draws bytes.old.items bytes.new.items (S.left source.old) (S.left source.new) }
     ensures piece { IfOk result (λ n. IsPiece n bytes.old.items bytes.new.items (S.left source.new)) }
+    ensures few { length bytes.new.items ≤ length bytes.old.items + PIECE_BYTES }
     ensures halts { IfErr result (λ e. Halts e (S.faults source.old) (S.faults source.new)) }
     ensures beside { S.beside source.new ≡ S.beside source.old }
     ensures steady { OnOk result (S.faults source.new ≡ S.faults source.old) }

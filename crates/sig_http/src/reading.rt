@@ -5,6 +5,8 @@ ghost use Rattle.sig_http.specs.Bodies.{StopsSection, TakesSection};
 ghost use Rattle.sig_http.specs.Faults.{Tallies};
 ghost use Rattle.sig_http.specs.Pieces.{Draws};
 ghost use Rattle.sig_http.specs.Message.{Reads, ReadsResponseOf, Refuses, RefusesResponse};
+ghost use Rattle.sig_http.specs.Taking.{DrawsWhile, IsOpenRequest, IsOpenResponse, IsOpenSection, Takes, TakesAtMost, taken_bytes};
+ghost use Rattle.sig_json.specs.declared.limits.TheConstants.{REQUEST_BODY_BYTES, RESPONSE_BODY_BYTES};
 
 use crate::body::{Body, read_body};
 use crate::head::{request_head, response_head};
@@ -33,6 +35,12 @@ pub fn read_request<S: Source>(
 
     // It takes no more than a piece beyond the message.
     ensures bound { OnOk result (length kept.new ≤ max (length kept.old) PIECE_BYTES) }
+
+    // It takes no piece after the one that completes or breaks the message, whatever it answers.
+    ensures awaits { Takes IsOpenRequest kept.old (S.left source.old) (S.left source.new) }
+
+    // And so it takes no more than these bytes.
+    ensures most { TakesAtMost (taken_bytes REQUEST_BODY_BYTES) (S.left source.old) (S.left source.new) }
 
     // A refusal is the one that these bytes decide.
     ensures refused { IfErr result (λ fault. IfSome (S.left source.old) (λ left. Refuses (kept.old ++ left) fault)) }
@@ -69,6 +77,12 @@ pub fn read_response<S: Source>(
     // It takes no more than a piece beyond the message.
     ensures bound { OnOk result (length kept.new ≤ max (length kept.old) PIECE_BYTES) }
 
+    // It takes no piece after the one that completes or breaks the message, whatever it answers.
+    ensures awaits { Takes IsOpenResponse kept.old (S.left source.old) (S.left source.new) }
+
+    // And so it takes no more than these bytes.
+    ensures most { TakesAtMost (taken_bytes RESPONSE_BODY_BYTES) (S.left source.old) (S.left source.new) }
+
     // A refusal is the one that these bytes decide.
     ensures refused { IfErr result (λ fault. IfSome (S.left source.old) (λ left. RefusesResponse (kept.old ++ left) fault)) }
     ensures link { IsErrOf result HttpFault.Link → Raised (S.faults source.old) (S.faults source.new) }
@@ -103,6 +117,7 @@ fn take_section<S: Source>(
     room: &mut Room,
 ) -> Result<Option<usize>, HttpFault>
     ensures draws { Draws held.old.items held.new.items (S.left source.old) (S.left source.new) }
+    ensures awaits { DrawsWhile IsOpenSection held.old.items held.new.items (S.left source.old) (S.left source.new) }
     ensures taken { IfOk result (λ taken. TakesSection taken held.new.items (S.left source.new)) }
     ensures bound { IfOk result (λ taken. IfSome taken (λ count. length held.new.items ≤ count + max (length held.old.items) PIECE_BYTES)) }
     ensures refused { IfErr result (λ fault. StopsSection fault held.new.items (S.left source.new)) }

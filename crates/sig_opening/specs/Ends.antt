@@ -1,5 +1,7 @@
 -- How a run ends, and what its end tells of the run.
 use Rattle.std.specs.Prelude.{◌≡◌, ◌⊎◌, ℕ, Bool, true, false, is_some, Option, None}
+use Rattle.sig_notes.specs.declared.cause.EndCause.{EndCause}
+use Rattle.sig_notes.specs.declared.cause.EndCause.TheVariants as causes
 use Rattle.sig_opening.specs.declared.unopened.Unopened.{Unopened}
 use Rattle.sig_opening.specs.declared.unopened.Unopened.TheVariants as unopened
 use Rattle.sig_opening.specs.declared.unread.Unread.{Unread}
@@ -18,6 +20,18 @@ of_unopened unopened.Missing = NoStore
 of_unopened unopened.Failed = StoreFailed
 of_unopened (unopened.Damaged file at) = Damaged file at
 of_unopened unopened.Memory = Memory
+
+-- the cause that the last line on standard error names
+abbrev pub cause_of : ServeEnd → EndCause
+cause_of Done = causes.Done
+cause_of SettingsFailed = causes.SettingsFailed
+cause_of (Refused member) = causes.Refused
+cause_of NoStore = causes.NoStore
+cause_of StoreFailed = causes.StoreFailed
+cause_of (Damaged file at) = causes.Damaged
+cause_of NetworkFailed = causes.NetworkFailed
+cause_of (Disagree differ) = causes.Disagree
+cause_of Memory = causes.Memory
 
 -- a run that came to its watches can end so
 abbrev pub IsEndOfWatches : ServeEnd → Type 0

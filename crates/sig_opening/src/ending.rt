@@ -1,9 +1,10 @@
 ghost use Rattle.std.specs.Prelude.{◌≡◌};
-ghost use Rattle.sig_opening.specs.Ends.{of_unopened, of_unread};
+ghost use Rattle.sig_opening.specs.Ends.{cause_of, of_unopened, of_unread};
 
 use crate::{Unopened, Unread};
 use sig_json::Text;
 use sig_logs::Differ;
+use sig_notes::EndCause;
 
 /// How the serving of a store ended, be it a transmitter's or a receiver's.
 #[derive(Drop)]
@@ -32,6 +33,23 @@ pub enum ServeEnd {
 }
 
 impl ServeEnd {
+    /// The cause that the last line on standard error names.
+    pub fn cause(&self) -> EndCause
+        ensures { result ≡ cause_of self.now }
+    {
+        match self {
+            ServeEnd::Done => EndCause::Done,
+            ServeEnd::SettingsFailed => EndCause::SettingsFailed,
+            ServeEnd::Refused(_) => EndCause::Refused,
+            ServeEnd::NoStore => EndCause::NoStore,
+            ServeEnd::StoreFailed => EndCause::StoreFailed,
+            ServeEnd::Damaged { .. } => EndCause::Damaged,
+            ServeEnd::NetworkFailed => EndCause::NetworkFailed,
+            ServeEnd::Disagree(_) => EndCause::Disagree,
+            ServeEnd::Memory => EndCause::Memory,
+        }
+    }
+
     /// The end where no settings were read, for this cause.
     pub fn of_unread(cause: Unread) -> ServeEnd
         ensures { result ≡ of_unread cause }

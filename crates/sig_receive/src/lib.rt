@@ -19,6 +19,7 @@
 
 mod ending;
 mod fetching;
+mod noting;
 mod peer;
 mod serving;
 mod settings;

@@ -2,3 +2,4 @@ pub mod Turns
 pub mod Delivered
 pub mod Rounds
 pub mod Laws
+pub mod Noted

@@ -5,9 +5,10 @@ ghost use Rattle.sig_round.specs.Delivered.{Delivered};
 ghost use Rattle.sig_round.specs.Turns.{Adds, AddsTurnOf};
 
 use crate::TurnLog;
+use crate::noting::push;
 use sig_json::Memory;
 use sig_links::Side;
-use sig_push::{PushFault, push};
+use sig_push::PushFault;
 use sig_terms::{Call, Outcome, Rules, Token};
 use sig_txnode::Taker;
 use std::alloc::Global;

@@ -16,6 +16,7 @@ mod asking;
 mod delivering;
 pub mod laws;
 mod log;
+mod noting;
 mod round;
 mod threads;
 

@@ -18,6 +18,7 @@
 mod end;
 pub mod laws;
 mod locked;
+mod noting;
 mod receiver;
 mod stored;
 mod threads;

@@ -14,6 +14,7 @@
 //! that links are served at the same time, which no contract can say, and that a link comes.
 #![tactic(auto)]
 
+mod noting;
 mod serving;
 mod settings;
 mod watches;

@@ -14,8 +14,9 @@ ghost use Rattle.sig_serve.specs.Ends.{AreRefused, IsDamaged};
 ghost use Rattle.sig_serve.specs.Serving.{Serves, ServesBy};
 
 use crate::ServeEnd;
+use crate::noting::run_watches;
 use crate::settings::settings_from;
-use crate::watches::{Served, run_watches};
+use crate::watches::Served;
 use sig_init::{FileNames, file_names};
 use sig_links::Outside;
 use sig_opening::{give_back, open};
@@ -136,7 +137,7 @@ fn serve_at<R: Threads + Wait + Sync, X: Outside>(
     match outside.door(place) {
         Ok(door) => {
             let mut door = door;
-            let served = run_watches(alloc, rt, node, watches, &mut door);
+            let served = run_watches(alloc, rt, node, place, watches, &mut door);
             outside.back_door(door);
             served
         }

@@ -1,2 +1,4 @@
+pub mod Calendar
 pub mod Deadlines
+pub mod Notes
 pub mod Adapters

@@ -22,28 +22,36 @@
 
 mod again;
 mod bell;
+mod calendar;
 mod deadline;
 mod file_disk;
+mod notes;
 mod outside_fault;
 mod reader_source;
+mod showing;
 mod system_outside;
 mod tcp_door;
 mod tcp_link;
 mod tcp_side;
 mod timing;
+mod topics;
 mod writer_sink;
 
 pub use again::{read_again, write_again};
+pub use calendar::{Moment, moment_at};
 pub use deadline::{
     EXCHANGE_MILLISECONDS, HURRY_MILLISECONDS, IDLE_MILLISECONDS, LINK_MILLISECONDS,
     READ_MILLISECONDS, REQUEST_MILLISECONDS, ROUND_MILLISECONDS, WRITE_MILLISECONDS,
 };
 pub use file_disk::{FileDisk, OpenFault};
+pub use notes::Notes;
 pub use outside_fault::OutsideFault;
 pub use reader_source::ReaderSource;
+pub use showing::{NOTE_BYTES, shown};
 pub use system_outside::SystemOutside;
 pub use tcp_door::{ACCEPT_MILLISECONDS, LACK_MILLISECONDS, LACKING_ACCEPTS, TcpDoor};
 pub use tcp_link::{REST_BYTES, REST_MILLISECONDS, REST_READS, TcpLink};
 pub use tcp_side::{DIAL_ADDRESSES, DIAL_SECONDS, TcpSide};
 pub use timing::LOOK_MILLISECONDS;
+pub use topics::{NOTE_SECONDS, NOTE_TOPICS};
 pub use writer_sink::WriterSink;

@@ -2,7 +2,7 @@ ghost use Rattle.std.specs.Prelude.{◌≡◌, None, Some, IfOk, IfErr, IfSome, 
 ghost use Rattle.sig_outside.specs.Causes.{HasCause};
 ghost use Rattle.sig_system.specs.Adapters.{IsOfDoor, IsOfStore, pair_of};
 
-use crate::{FileDisk, OpenFault, OutsideFault, ReaderSource, TcpDoor, TcpSide};
+use crate::{FileDisk, Notes, OpenFault, OutsideFault, ReaderSource, TcpDoor, TcpSide};
 use sig_links::{FaultCount, Outside};
 use sig_outside::{Failed, Place};
 use std::alloc::Global;
@@ -28,6 +28,7 @@ pub struct SystemOutside<R> {
     stores: FaultCount,
     network: FaultCount,
     last: Option<OutsideFault>,
+    notes: Notes,
 }
 
 impl<R> Model for SystemOutside<R> {
@@ -50,6 +51,7 @@ impl<R> SystemOutside<R> {
             stores: FaultCount::new(),
             network: FaultCount::new(),
             last: None,
+            notes: Notes::new(alloc),
         }
     }
 
@@ -163,7 +165,7 @@ impl<
         ensures why { OnErr result (IfSome self.new.last IsOfDoor × (self.new ≡ record self.old { network = self.new.network; last = self.new.last })) }
         ensures cause { HasCause self.old.network self.new.network result }
     {
-        match open_door(self.alloc, self.rt, place) {
+        match open_door(self.alloc, self.rt, place, &self.notes) {
             Ok(given) => Ok(given),
             Err(fault) => {
                 self.last = Some(fault);
@@ -173,11 +175,11 @@ impl<
     }
 
     fn note(&mut self, line: &str) {
-        let _ = eprintln!(self.rt; "{line}");
+        self.notes.tell(self.alloc, &self.rt, None, line);
     }
 
     fn side(&mut self) -> TcpSide<R> {
-        TcpSide::new(self.alloc, self.rt)
+        TcpSide::new(self.alloc, self.rt, self.notes.shared())
     }
 
     fn back_door(&mut self, door: TcpDoor<R>) {
@@ -194,18 +196,19 @@ fn open_door<R: Net<Listener = TcpListener, Stream = TcpStream> + Clock + Copy>(
     alloc: Global,
     rt: R,
     place: &Place,
+    notes: &Notes,
 ) -> Result<TcpDoor<R>, OutsideFault>
     ensures door { IfOk result (λ door. door ≡ record { place = Some (pair_of place.now); faults = 0 }) }
     ensures why { IfErr result IsOfDoor }
 {
     for _ in 0..DOOR_TRIES {
-        match TcpDoor::open(alloc, rt, place) {
+        match TcpDoor::open(alloc, rt, place, notes.shared()) {
             Ok(door) => return Ok(door),
             Err(OutsideFault::PlaceInUse) => rt.sleep(Duration::from_millis(DOOR_MILLISECONDS)),
             Err(fault) => return Err(fault),
         }
     }
-    TcpDoor::open(alloc, rt, place)
+    TcpDoor::open(alloc, rt, place, notes.shared())
 }
 
 // The settings in the file at this path.

@@ -5,7 +5,7 @@ ghost use Rattle.sig_system.specs.Adapters.{IsOfDoor, pair_of, untold, unused};
 
 use crate::bell::Bell;
 use crate::deadline::LINK_MILLISECONDS;
-use crate::{OutsideFault, TcpLink, TcpSide};
+use crate::{Notes, OutsideFault, TcpLink, TcpSide};
 use mio::unix::SourceFd;
 use mio::{Events, Interest, Poll, Token};
 use sig_links::{Accepted, Door, FaultCount};
@@ -45,6 +45,7 @@ pub struct TcpDoor<R> {
     bell: Bell,
     // How many accepts in a row found that the system lacks something.
     lacking: u32,
+    notes: Notes,
     faults: FaultCount,
 }
 
@@ -58,9 +59,14 @@ impl<R> Model for TcpDoor<R> {
 }
 
 impl<R: Net<Listener = TcpListener, Stream = TcpStream> + Copy> TcpDoor<R> {
-    /// A door at this place: it listens at the first address of the host where the system lets it. The fault is `PlaceInUse`
+    /// A door at this place, whose sides tell lines by these notes: it listens at the first address of the host where the system lets it. The fault is `PlaceInUse`
     /// where another process listens there, `Memory` or `Door`.
-    pub fn open(alloc: Global, rt: R, place: &Place) -> Result<TcpDoor<R>, OutsideFault>
+    pub fn open(
+        alloc: Global,
+        rt: R,
+        place: &Place,
+        notes: Notes,
+    ) -> Result<TcpDoor<R>, OutsideFault>
         ensures door { IfOk result (λ door. door ≡ record { place = Some (pair_of place.now); faults = 0 }) }
         ensures why { IfErr result IsOfDoor }
     {
@@ -80,6 +86,7 @@ impl<R: Net<Listener = TcpListener, Stream = TcpStream> + Copy> TcpDoor<R> {
                 alloc,
                 bell,
                 lacking: 0,
+                notes,
                 faults: FaultCount::new(),
             }),
             Err(error) if error.kind() == ErrorKind::AddrInUse => Err(OutsideFault::PlaceInUse),
@@ -181,7 +188,7 @@ impl<R: Net<Listener = TcpListener, Stream = TcpStream> + Clock + Eprint + Copy 
         match self.next_link() {
             Ok(Some(link)) => Ok(Accepted::Link {
                 link,
-                side: TcpSide::new(self.alloc, self.rt),
+                side: TcpSide::new(self.alloc, self.rt, self.notes.shared()),
             }),
             Ok(None) => Ok(Accepted::Waited),
             Err(_) => Err(self.faults.raise()),
@@ -191,7 +198,7 @@ impl<R: Net<Listener = TcpListener, Stream = TcpStream> + Clock + Eprint + Copy 
     fn back(&mut self, _link: TcpLink<R>, _side: TcpSide<R>) {}
 
     fn own_side(&mut self) -> TcpSide<R> {
-        TcpSide::new(self.alloc, self.rt)
+        TcpSide::new(self.alloc, self.rt, self.notes.shared())
     }
 
     fn hurry(&mut self) {

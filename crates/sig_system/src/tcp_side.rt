@@ -2,9 +2,9 @@ ghost use Rattle.std.specs.Prelude.{◌≡◌, None, Some, IfOk, IfSome};
 ghost use Rattle.sig_outside.specs.Causes.{HasCause};
 ghost use Rattle.sig_system.specs.Adapters.{pair_of, untold, unused};
 
-use crate::TcpLink;
 use crate::deadline::{exchange_after, within};
 use crate::timing::milliseconds;
+use crate::{Notes, TcpLink};
 use sig_links::{FaultCount, Side};
 use sig_outside::{Failed, Place};
 use std::alloc::Global;
@@ -28,6 +28,7 @@ pub struct TcpSide<R> {
     time: u64,
     // When the round began whose links it dials, if it is asked for rounds.
     round: Option<Instant>,
+    notes: Notes,
     faults: FaultCount,
 }
 
@@ -40,8 +41,8 @@ impl<R> Model for TcpSide<R> {
 }
 
 impl<R> TcpSide<R> {
-    /// A side that has met no fault.
-    pub fn new(alloc: Global, rt: R) -> TcpSide<R>
+    /// A side that has met no fault, and tells lines by these notes.
+    pub fn new(alloc: Global, rt: R, notes: Notes) -> TcpSide<R>
         ensures { result ≡ 0 }
     {
         TcpSide {
@@ -49,6 +50,7 @@ impl<R> TcpSide<R> {
             alloc,
             time: 0,
             round: None,
+            notes,
             faults: FaultCount::new(),
         }
     }
@@ -87,8 +89,8 @@ impl<R: Net<Stream = TcpStream> + Clock + Eprint + Copy> Side for TcpSide<R> {
         }
     }
 
-    fn note(&mut self, _topic: Option<&str>, line: &str) {
-        let _ = eprintln!(self.rt; "{line}");
+    fn note(&mut self, topic: Option<&str>, line: &str) {
+        self.notes.tell(self.alloc, &self.rt, topic, line);
     }
 
     // Where the clock can't be read, it is the last time again, 0 at first.
@@ -130,7 +132,7 @@ fn connect<R: Net<Stream = TcpStream> + Clock + Copy>(
 }
 
 // The time in seconds since the start of 1970, where the clock can be read.
-fn seconds<R: Clock>(rt: &R) -> Option<u64> {
+pub fn seconds<R: Clock>(rt: &R) -> Option<u64> {
     let now = SystemTime::now(rt).ok()?;
     Some(now.duration_since(UNIX_EPOCH).ok()?.as_secs())
 }

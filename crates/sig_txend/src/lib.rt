@@ -23,6 +23,7 @@ mod end;
 mod following;
 pub mod laws;
 mod locked;
+mod noting;
 mod stored;
 mod threads;
 mod transmitter;

@@ -1,7 +1,8 @@
+use crate::noting::serve_link;
 use crate::{Locked, TxEnd};
 use sig_book::Naming;
 use sig_json::Memory;
-use sig_link::{LinkLog, serve_link};
+use sig_link::LinkLog;
 use sig_links::{Link, Side};
 use sig_outside::Disk;
 use sig_terms::Rules;

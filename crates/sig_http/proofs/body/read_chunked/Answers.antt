@@ -1,7 +1,7 @@
 use Rattle.std.proofs.Common.{◌≡◌, ◌∙◌, Err, ap, sym, arith, rules, length, drop}
 use Rattle.sig_http.specs.Chunks.{Holds, chunks_from}
 use Rattle.sig_http.proofs.PieceLemmas.{judged_fault, judged_tally, draws_from, halts_fault, halts_tally}
-use Rattle.sig_http.proofs.BodyLemmas.{chunks_break, chunks_cut, chunks_end, chunking_on}
+use Rattle.sig_http.proofs.BodyLemmas.{chunks_break, chunks_cut, chunks_end, chunking_on, chunking_takes}
 use Rattle.sig_http.proofs.body.read_chunked.Goals as goal
 
 pub returns-in-Broken-clause-refused : goal.returns-in-Broken-clause-refused
@@ -32,7 +32,7 @@ pieces-preserved g c =
     record {
       chunking = chunking_on c.args.limit c.args.held.items c.pieces.standing c.in-Open.next c.pieces.content.items c.read_chunks.new.content.items c.pieces.held.items c.take_piece.new.bytes.items _ _ _
           before.chunking (ap (chunks_from c.args.limit c.pieces.standing c.pieces.content.items) (sym c.as_slice.ensures.value) ∙ told)
-          (draws_from _ _ _ _ _ c.clear.ensures.items c.in_ok-take_piece.ensures.draws);
+          (draws_from _ _ _ _ _ c.clear.ensures.items c.in_ok-take_piece.ensures.draws) (omega (arith, c.in_ok-take_piece.ensures.few, ap length c.clear.ensures.items));
       few = omega (arith, c.in_ok-take_piece.ensures.piece.count, c.in_ok-take_piece.ensures.piece.bound, ap length c.clear.ensures.items);
       beside = c.in_ok-take_piece.ensures.beside ∙ before.beside;
       steady = c.in_ok-take_piece.ensures.steady ∙ before.steady;
@@ -54,3 +54,11 @@ pub returns-in_err-take_piece-clause-tally : goal.returns-in_err-take_piece-clau
 returns-in_err-take_piece-clause-tally g c =
     let is : c.from_residual-in_err-take_piece.result ≡ Err c.in_err-take_piece.field-0.0 = search rules in
     rw is (halts_tally c.in_err-take_piece.field-0.0 _ _ _ c.pieces.invariant.steady c.in_err-take_piece.ensures.halts)
+
+pub returns-in_err-take_piece-clause-awaits : goal.returns-in_err-take_piece-clause-awaits
+returns-in_err-take_piece-clause-awaits g c =
+    let told = rw c.in-Open.is at c.in_ok-next.ensures.told in
+    chunking_takes c.args.limit c.args.held.items c.in-Open.next c.read_chunks.new.content.items c.take_piece.new.bytes.items _ _
+    (chunking_on c.args.limit c.args.held.items c.pieces.standing c.in-Open.next c.pieces.content.items c.read_chunks.new.content.items c.pieces.held.items c.take_piece.new.bytes.items _ _ _
+    c.pieces.invariant.chunking (ap (chunks_from c.args.limit c.pieces.standing c.pieces.content.items) (sym c.as_slice.ensures.value) ∙ told)
+    (draws_from _ _ _ _ _ c.clear.ensures.items c.in_err-take_piece.ensures.draws) (omega (arith, c.in_err-take_piece.ensures.few, ap length c.clear.ensures.items)))

@@ -5,6 +5,7 @@ use Rattle.sig_http.specs.Heads.{Opens, RefusesHead}
 use Rattle.sig_http.specs.Bodies.{EndsBody, StopsBody}
 use Rattle.sig_http.proofs.PieceLemmas.{draws_from, link_raises, other_leaves, none_lowers}
 use Rattle.sig_http.proofs.ReadingLemmas.{section_refused, head_refused, body_refused, got_request}
+use Rattle.sig_http.proofs.TakingLemmas.{request_body, request_section}
 use Rattle.sig_http.proofs.reading.read_request.Goals as goal
 
 pub returns-in_err-count-clause-refused : goal.returns-in_err-count-clause-refused
@@ -54,3 +55,39 @@ returns-in_err-body-clause-steady g c =
 
 pub returns-in_err-body-clause-later : goal.returns-in_err-body-clause-later
 returns-in_err-body-clause-later g c = none_lowers c.in_err-body.field-0.0 _ _ _ c.in_ok-count.ensures.steady c.in_err-body.ensures.tally
+
+pub returns-in_err-count-clause-most : goal.returns-in_err-count-clause-most
+returns-in_err-count-clause-most g c = (request_section _ c.args.kept.now c.take_section.new.held.items _ _ c.take-held.ensures.taken c.in_err-count.ensures.awaits).most
+
+pub returns-in_err-after-clause-most : goal.returns-in_err-after-clause-most
+returns-in_err-after-clause-most g c = (request_section _ c.args.kept.now c.take_section.new.held.items _ _ c.take-held.ensures.taken c.in_ok-count.ensures.awaits).most
+
+pub returns-in_err-request-clause-awaits : goal.returns-in_err-request-clause-awaits
+returns-in_err-request-clause-awaits g c = (request_section _ c.args.kept.now c.take_section.new.held.items _ _ c.take-held.ensures.taken c.in_ok-count.ensures.awaits).awaits
+
+pub returns-in_err-request-clause-most : goal.returns-in_err-request-clause-most
+returns-in_err-request-clause-most g c = (request_section _ c.args.kept.now c.take_section.new.held.items _ _ c.take-held.ensures.taken c.in_ok-count.ensures.awaits).most
+
+pub returns-in_err-body-clause-awaits : goal.returns-in_err-body-clause-awaits
+returns-in_err-body-clause-awaits g c =
+    let taken = rw c.in-Some.is at c.in_ok-count.ensures.taken in
+    (request_body _ c.args.kept.now c.take_section.new.held.items _ _ c.in-Some.count c.in_ok-request.request c.in_ok-request.framing _ _ _ c.take-held.ensures.taken c.in_ok-count.ensures.awaits
+    taken.0 taken.1 (c.as_slice.ensures.value ∙ c.in_ok-after.ensures.items) c.in_ok-after.ensures.tail c.in_ok-request.ensures.opens c.in_err-body.ensures.awaits).awaits
+
+pub returns-in_err-body-clause-most : goal.returns-in_err-body-clause-most
+returns-in_err-body-clause-most g c =
+    let taken = rw c.in-Some.is at c.in_ok-count.ensures.taken in
+    (request_body _ c.args.kept.now c.take_section.new.held.items _ _ c.in-Some.count c.in_ok-request.request c.in_ok-request.framing _ _ _ c.take-held.ensures.taken c.in_ok-count.ensures.awaits
+    taken.0 taken.1 (c.as_slice.ensures.value ∙ c.in_ok-after.ensures.items) c.in_ok-after.ensures.tail c.in_ok-request.ensures.opens c.in_err-body.ensures.awaits).most
+
+pub returns-clause-awaits : goal.returns-clause-awaits
+returns-clause-awaits g c =
+    let taken = rw c.in-Some.is at c.in_ok-count.ensures.taken in
+    (request_body _ c.args.kept.now c.take_section.new.held.items _ _ c.in-Some.count c.in_ok-request.request c.in_ok-request.framing _ _ _ c.take-held.ensures.taken c.in_ok-count.ensures.awaits
+    taken.0 taken.1 (c.as_slice.ensures.value ∙ c.in_ok-after.ensures.items) c.in_ok-after.ensures.tail c.in_ok-request.ensures.opens c.in_ok-body.ensures.awaits).awaits
+
+pub returns-clause-most : goal.returns-clause-most
+returns-clause-most g c =
+    let taken = rw c.in-Some.is at c.in_ok-count.ensures.taken in
+    (request_body _ c.args.kept.now c.take_section.new.held.items _ _ c.in-Some.count c.in_ok-request.request c.in_ok-request.framing _ _ _ c.take-held.ensures.taken c.in_ok-count.ensures.awaits
+    taken.0 taken.1 (c.as_slice.ensures.value ∙ c.in_ok-after.ensures.items) c.in_ok-after.ensures.tail c.in_ok-request.ensures.opens c.in_ok-body.ensures.awaits).most

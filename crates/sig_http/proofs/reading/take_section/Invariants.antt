@@ -1,13 +1,13 @@
 use Rattle.std.proofs.Common.{◌≡◌, ◌≤◌, ◌-◌, ◌+◌, length, drop, max}
 use Rattle.sig_json.specs.declared.limits.TheConstants.{HEAD_BYTES}
 use Rattle.sig_http.specs.declared.limits.TheConstants.{PIECE_BYTES}
-use Rattle.sig_http.specs.Pieces.{Draws}
+use Rattle.sig_http.specs.Taking.{DrawsWhile, IsOpenSection}
 use Rattle.sig_http.specs.Section.{start, section_from}
 use Rattle.sig_http.proofs.reading.take_section.Given as goal
 
 abbrev pub invariant-pieces : goal.invariant-pieces
 invariant-pieces g l = record {
-  draws : Draws l.fn.held.items l.held.items (g.S.Source.left l.fn.source) (g.S.Source.left l.source);
+  awaits : DrawsWhile IsOpenSection l.fn.held.items l.held.items (g.S.Source.left l.fn.source) (g.S.Source.left l.source);
   told : section_from start l.held.items ≡ section_from l.scan (drop l.judged l.held.items);
   counted : l.scan.bytes ≡ l.judged;
   judged : l.judged ≤ length l.held.items;

@@ -1,0 +1,51 @@
+//! What is told of a run: a line as it begins, and one as it ends.
+
+ghost use Rattle.std.specs.Prelude.{◌≡◌, ◌<◌, IfOk, None, length};
+ghost use Rattle.sig_notes.specs.Lines as spec;
+ghost use Rattle.sig_opening.specs.Ends.{BreaksAfter};
+ghost use Rattle.sig_opening.specs.Watches.{RunsTo};
+ghost use Rattle.sig_receive.specs.Door.{with_door};
+ghost use Rattle.sig_receive.specs.Watches.{IsWatch, tells_of};
+
+use crate::watches::Served;
+use crate::{ServeEnd, watches};
+use sig_json::{Memory, Text};
+use sig_links::Door;
+use sig_notes::{ended, receiving, tell};
+use sig_outside::{Disk, Place};
+use sig_rxnode::RxNode;
+use std::alloc::Global;
+use std::sync::Wait;
+use std::thread::Threads;
+
+/// Runs so many watches as `watches` does, over a door at this place, and tells how the run begins and why it ends.
+pub fn run_watches<R: Threads + Wait + Sync, D: Disk + Send, A: Door>(
+    alloc: Global,
+    rt: &R,
+    node: RxNode<D>,
+    place: &Place,
+    watches: u64,
+    door: &mut A,
+) -> Served<D>
+    requires { node.kept.store.broken_at ≡ None }
+    ensures runs { RunsTo (IsWatch node.rules) tells_of result.end watches
+        (with_door D.told node (A.view door.old))
+        (with_door D.told result.node (A.view door.new)) }
+    ensures breaks { BreaksAfter result.end result.node.kept.store.broken_at }
+    ensures network { result.end ≡ ServeEnd.NetworkFailed → 0 < (A.view door.new).faults }
+{
+    let mut side = door.own_side();
+    tell(&mut side, None, beginning(alloc, &node, place));
+    let served = watches::run_watches(alloc, rt, node, watches, door);
+    tell(&mut side, None, ended(alloc, served.end.cause()));
+    served
+}
+
+// The line with which a receiver begins to serve.
+fn beginning<D: Disk>(alloc: Global, node: &RxNode<D>, place: &Place) -> Result<Text, Memory>
+    ensures { IfOk result (λ line. line ≡ spec.receiving place.now.host place.now.port (length node.now.rules.trust.issuers) (length node.now.kept.entries)) }
+{
+    let issuers = node.rules().trust.issuers.as_slice().len() as u64;
+    let tokens = node.tokens() as u64;
+    receiving(alloc, place.host.as_str(), place.port, issuers, tokens)
+}
