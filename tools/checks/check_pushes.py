@@ -43,7 +43,10 @@ class Endpoint:
     """An endpoint of pushes on a port of its own, which keeps what it is sent, and answers as it is told."""
 
     def __init__(self, answer):
-        self.answer, self.tokens, self.port, self.delay = answer, [], free_port(), 0
+        self.begin(answer, free_port())
+
+    def begin(self, answer, port):
+        self.answer, self.tokens, self.port, self.delay = answer, [], port, 0
         endpoint = self
 
         class Handler(http.server.BaseHTTPRequestHandler):
@@ -147,25 +150,23 @@ def refused(server):
 def slow(server):
     """An endpoint that keeps 40 tokens owed, each after four seconds: a round ends after fifteen seconds, and what is left of it stays owed."""
     endpoint = Endpoint((503, b""))
-    push_stream(server, endpoint.url())
+    stream = push_stream(server, endpoint.url())
     for number in range(100, 140):
         published(server, number)
-    until(lambda: len(endpoint.subjects()) >= 32, "a round pushes fewer tokens than it is handed")
-    pushed = 0
-    while pushed < len(endpoint.tokens):
-        pushed = len(endpoint.tokens)
-        time.sleep(2)
+    until(lambda: endpoint.tokens, "nothing is pushed to who is busy")
+    # until the server has tried it by itself, after which it waits for half a minute
+    time.sleep(5)
     endpoint.delay, endpoint.tokens = 4, []
-    body = json.dumps(publish(server, 140)[0]).encode()
-    head = f"POST /operator/publish HTTP/1.1\r\nhost: localhost\r\nauthorization: Bearer {server.operator}\r\nconnection: close\r\ncontent-length: {len(body)}\r\n\r\n"
+    body = json.dumps({"stream_id": stream}).encode()
+    head = f"POST /operator/deliver HTTP/1.1\r\nhost: localhost\r\nauthorization: Bearer {server.operator}\r\nconnection: close\r\ncontent-length: {len(body)}\r\n\r\n"
     began, got = time.time(), b""
     with socket.create_connection(("127.0.0.1", server.port), 60) as link:
         link.sendall(head.encode() + body)
         while more := link.recv(1 << 16):
             got += more
     lasted = time.time() - began
-    need(got.startswith(b"HTTP/1.1 200 "), f"a publication is answered {got!r}")
-    need(lasted <= 20, f"a slow endpoint holds the link of the publisher for {lasted:.0f} seconds")
+    need(got.startswith(b"HTTP/1.1 20"), f"a round that is asked for is answered {got!r}")
+    need(10 <= lasted <= 20, f"a slow endpoint holds the link of who asks for {lasted:.0f} seconds")
     need(3 <= len(endpoint.tokens) <= 4, f"a round of fifteen seconds pushes {len(endpoint.tokens)} tokens, one each four seconds")
 
 

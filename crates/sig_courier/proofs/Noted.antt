@@ -1,13 +1,13 @@
 -- One more attempt, in the log and in what is kept.
-use Rattle.std.proofs.Common.{◌≡◌, ◌∙◌, ap, sym, subst, refl, ℕ, zero, suc, ◌+◌, ◌*◌, ◌^◌, ◌<◌, min, pow_pos, List, [], ◌∷◌, ◌++◌, Bool, true, false, reverse, filter, bytes_eq, if◌then◌else◌, append-nil, arith}
+use Rattle.std.proofs.Common.{◌≡◌, ◌∙◌, ap, sym, subst, refl, ℕ, zero, suc, ◌+◌, ◌*◌, ◌^◌, ◌<◌, min, pow_pos, List, [], ◌∷◌, ◌++◌, Bool, true, false, reverse, filter, bytes_eq, if◌then◌else◌, arith}
 use Rattle.std.proofs.Math.Nat.{pow-succ'}
 use Rattle.std.proofs.lemmas.List.{reverse-append}
 use Rattle.std.proofs.lemmas.List.Elements.{filter-append}
 use Rattle.std.proofs.lemmas.Slice.Eq.{bytes_eq-Decides}
 use Rattle.sig_courier.specs.declared.attempt.Attempt.{Attempt}
 use Rattle.sig_courier.specs.declared.late.Late.{Late}
-use Rattle.sig_courier.specs.Waits.{after, next_wait, not_late, wait_after}
-use Rattle.sig_courier.specs.Schedule.{IsLogged, Kept, attempts_of, due_after, late_after, late_in, lates}
+use Rattle.sig_courier.specs.Waits.{after, next_wait, wait_after}
+use Rattle.sig_courier.specs.Schedule.{IsLogged, Kept, attempts_of, late_after, late_in, lates}
 
 -- ---- the log
 

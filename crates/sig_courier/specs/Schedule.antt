@@ -1,5 +1,5 @@
 -- When a stream is due, by the log of all attempts.
-use Rattle.std.specs.Prelude.{◌≡◌, ℕ, suc, ◌+◌, List, [], ◌∷◌, Bool, reverse, filter, bytes_eq, is_some, unwrap_or, if◌then◌else◌}
+use Rattle.std.specs.Prelude.{◌≡◌, ℕ, suc, ◌+◌, List, [], ◌∷◌, Bool, true, reverse, filter, bytes_eq, is_some, unwrap_or, if◌then◌else◌}
 use Rattle.std.specs.Map.{lookup}
 use Rattle.sig_courier.specs.declared.attempt.Attempt.{Attempt}
 use Rattle.sig_courier.specs.declared.late.Late.{Late}
@@ -45,3 +45,7 @@ IsLogged kept log = (stream : List ℕ) → late_in kept stream ≡ late_after (
 -- no attempt was noted
 abbrev pub StaysLogged : Kept → Kept → Type 0
 StaysLogged old new = (stream : List ℕ) → late_in new stream ≡ late_in old stream
+
+-- something is kept still of each stream of which something was
+abbrev pub StaysKnown : Kept → Kept → Type 0
+StaysKnown old new = (stream : List ℕ) → is_known old stream ≡ true → is_known new stream ≡ true

@@ -1,5 +1,5 @@
 -- How long a stream waits after late attempts, and what is kept of them.
-use Rattle.std.specs.Prelude.{ℕ, zero, suc, ◌+◌, ◌*◌, ◌^◌, min, Bool, if◌then◌else◌, ◌==◌}
+use Rattle.std.specs.Prelude.{ℕ, zero, suc, ◌+◌, ◌*◌, ◌^◌, min, Bool, if◌then◌else◌}
 use Rattle.sig_courier.specs.declared.late.Late.{Late}
 
 -- the wait after so many late attempts in a row: 30 seconds after the first, twice as long after each further one, an hour at most

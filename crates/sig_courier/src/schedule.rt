@@ -1,6 +1,6 @@
-ghost use Rattle.std.specs.Prelude.{◌≡◌, ◌≤◌, ◌∷◌, [], ◌++◌, List, ℕ, OnErr, OnOk, bytes_eq, false, true};
+ghost use Rattle.std.specs.Prelude.{◌≡◌, ◌≤◌, ◌∷◌, [], ◌++◌, List, ℕ, IsOk, OnErr, OnOk, bytes_eq, false, true};
 ghost use Rattle.sig_json.specs.declared.limits.TheConstants.{LAST_NUMBER};
-ghost use Rattle.sig_courier.specs.Schedule.{IsLogged, StaysLogged, due, is_known, late_in};
+ghost use Rattle.sig_courier.specs.Schedule.{IsLogged, StaysKnown, StaysLogged, due, is_known, late_in};
 ghost use Rattle.sig_courier.specs.declared.attempt.Attempt.{Attempt};
 
 use crate::Attempt;
@@ -47,10 +47,13 @@ impl Schedule {
         self.late(stream).due
     }
 
-    /// Makes room for the notes of a stream's attempts. Out of memory is its only error. No attempt is noted.
+    /// Makes room for the notes of a stream's attempts. Out of memory is its only error, and comes only where there was no
+    /// room. No attempt is noted, and streams for which there was room have it still.
     pub fn make_room(&mut self, stream: &Text) -> Result<(), Memory>
         ensures known { OnOk result (is_known self.new stream.now ≡ true) }
         ensures same { StaysLogged self.old self.new }
+        ensures there { is_known self.old stream.now ≡ true → IsOk result }
+        ensures stays { StaysKnown self.old self.new }
     {
         if self.lates.contains_key(stream) {
             return Ok(());
@@ -61,11 +64,12 @@ impl Schedule {
     }
 
     /// Notes an attempt of a stream for which there is room: it is last in the log. It takes no memory.
-    #[tactic(auto, using(crate::proofs::Noted::noted))]
+    #[tactic(auto, using(crate::proofs::Noted::noted, crate::proofs::Known::stays_known))]
     pub fn note_known(&mut self, attempt: &Attempt)
         requires known { is_known self.old attempt.now.stream ≡ true }
         requires time { attempt.now.at ≤ LAST_NUMBER }
-        ensures { (log : List Attempt) → IsLogged self.old log → IsLogged self.new (log ++ attempt.now ∷ []) }
+        ensures noted { (log : List Attempt) → IsLogged self.old log → IsLogged self.new (log ++ attempt.now ∷ []) }
+        ensures stays { StaysKnown self.old self.new }
     {
         let late = self.late(&attempt.stream).after(attempt.at, attempt.good);
         self.set(&attempt.stream, late);
@@ -86,6 +90,8 @@ impl Schedule {
         requires known { is_known self.old stream.now ≡ true }
         ensures own { late_in self.new stream.now ≡ late }
         ensures others { (other : List ℕ) → bytes_eq stream.now other ≡ false → late_in self.new other ≡ late_in self.old other }
+        ensures known { is_known self.new stream.now ≡ true }
+        ensures others_known { (other : List ℕ) → bytes_eq stream.now other ≡ false → is_known self.new other ≡ is_known self.old other }
     {
         if let Some(kept) = self.lates.get_mut(stream) {
             *kept = late;

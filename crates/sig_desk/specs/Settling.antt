@@ -1,9 +1,10 @@
 -- A desk at the end of its watch.
-use Rattle.std.specs.Prelude.{◌≡◌, ◌⊎◌, ℕ, ◌<◌, [], true, Contains, length, Some, None}
+use Rattle.std.specs.Prelude.{◌≡◌, ◌⊎◌, ℕ, ◌<◌, [], true, false, Contains, length, Some, None}
 use mathlib.Core.List.{IsPrefix}
+use Rattle.sig_book.specs.Histories.{IsLonger}
 use Rattle.sig_logs.specs.declared.difference.Differ.{Differ}
 use Rattle.sig_logs.specs.declared.difference.Differ.TheVariants.{Turn}
-use Rattle.sig_desk.specs.Views.{DeskView, IsOpen, ReceiptView}
+use Rattle.sig_desk.specs.Views.{DeskView, HasClosed, IsOpen, ReceiptView}
 
 -- nothing differs, no turn is left, and no link after so many has ended
 pub record IsSettled {G T : Type 0} (links : ℕ) (desk : DeskView G T) : Type 0 where
@@ -19,8 +20,8 @@ pub record IsLeft {G T : Type 0} (link_of : T → ℕ) (desk : DeskView G T) (li
   pub first : place ≡ 1
 
 -- why it isn't: what the desk tells; or a turn of a link that hasn't ended; or, at the place 0, that one after so many has
-abbrev pub IsUnsettled : {G T : Type 0} → (T → ℕ) → DeskView G T → Differ → Type 0
-IsUnsettled link_of desk (Turn link place) = (desk.differs ≡ Some (Turn link place)) ⊎ IsLeft link_of desk link place ⊎ (place ≡ 0)
+abbrev pub IsUnsettled : {G T : Type 0} → (T → ℕ) → ℕ → DeskView G T → Differ → Type 0
+IsUnsettled link_of links desk (Turn link place) = (desk.differs ≡ Some (Turn link place)) ⊎ IsLeft link_of desk link place ⊎ ((place ≡ 0) × HasClosed links desk.marks)
 
 -- the history of the log's receipt has the log
 abbrev pub IsOf : {G : Type 0} → (G → ℕ) → G → ReceiptView G → Type 0
@@ -29,3 +30,7 @@ IsOf number_of log receipt = (number_of log ≡ receipt.number) × (receipt.is_s
 -- the desk's history goes on from that of the receipt
 abbrev pub IsShown : {G T : Type 0} → DeskView G T → ReceiptView G → Type 0
 IsShown desk receipt = (receipt.is_shown ≡ true) × IsPrefix receipt.front desk.logs
+
+-- the receipt shows no log, or is of a history that goes on from the desk's
+abbrev pub IsUnshown : {G T : Type 0} → DeskView G T → ReceiptView G → Type 0
+IsUnshown desk receipt = (receipt.is_shown ≡ false) ⊎ IsLonger desk.logs receipt.front

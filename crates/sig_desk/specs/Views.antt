@@ -1,5 +1,5 @@
 -- A desk, as contracts see it.
-use Rattle.std.specs.Prelude.{◌≡◌, ℕ, List, [], ◌∷◌, Bool, true, false, Option, Some, None, replicate, slice_get}
+use Rattle.std.specs.Prelude.{◌≡◌, ◌<◌, length, ℕ, List, [], ◌∷◌, Bool, true, false, Option, Some, None, replicate, slice_get}
 use Rattle.sig_logs.specs.declared.difference.Differ.{Differ}
 
 -- the logs of the links that have ended, the turns of those that haven't, by the number of a link whether its turns may come, what
@@ -18,6 +18,13 @@ IsOpen marks number = slice_get marks number ≡ Some true
 -- it is a link's number, and the link has ended
 abbrev pub IsClosed : List Bool → ℕ → Type 0
 IsClosed marks number = slice_get marks number ≡ Some false
+
+-- a link after so many has ended
+pub record HasClosed (links : ℕ) (marks : List Bool) : Type 0 where
+  pub number : ℕ
+  pub beyond : links < number
+  pub known : number < length marks
+  pub closed : IsOpen marks number → ⊥
 
 -- before the first turn of the links 1 to this one: no link has the number 0
 abbrev pub begun : {G T : Type 0} → ℕ → ℕ → DeskView G T

@@ -1,9 +1,9 @@
-ghost use Rattle.std.specs.Prelude.{◌≡◌, ◌↔◌, ◌<◌, ◌++◌, ◌∷◌, [], true, IfOk, IfSome, IsTrue, MatchOption, OnOk, Some, length, vec_capacity};
+ghost use Rattle.std.specs.Prelude.{◌≡◌, ◌↔◌, ◌<◌, ◌++◌, ◌∷◌, [], true, IfOk, IfSome, IsTrue, false, MatchOption, OnOk, Some, length, vec_capacity};
 ghost use Rattle.std.specs.Option.{option_to_list};
 ghost use mathlib.Core.List.{IsPrefix};
 ghost use Rattle.sig_desk.specs.Keeping.{KeepsOn};
 ghost use Rattle.sig_logs.specs.declared.difference.Differ.TheVariants.{Turn};
-ghost use Rattle.sig_desk.specs.Settling.{IsOf, IsSettled, IsShown, IsUnsettled};
+ghost use Rattle.sig_desk.specs.Settling.{IsOf, IsSettled, IsShown, IsUnshown, IsUnsettled};
 ghost use Rattle.sig_desk.specs.Views.{IsOpen, begun, telling};
 
 use crate::Receipt;
@@ -63,7 +63,8 @@ impl<J: Naming, G: Logged<Turn = T>, T: LinkTurn + Drop> Desk<J, G, T> {
     /// Keeps the turn that a node kept, if it kept one, for which there is room.
     pub fn keep(&mut self, turn: Option<T>)
         requires { length self.old.turns < self.old.room }
-        ensures { KeepsOn T.link_of G.number_of G.turns_of self.old self.new (option_to_list turn) }
+        ensures keeps { KeepsOn T.link_of G.number_of G.turns_of self.old self.new (option_to_list turn) }
+        ensures links { (self.new.marks ≡ self.old.marks) × (self.new.logs ≡ self.old.logs) }
     {
         match turn {
             Some(turn) if self.is_open(turn.link()) => self.turns.push_reserved(turn),
@@ -96,9 +97,9 @@ impl<J: Naming, G: Logged<Turn = T>, T: LinkTurn + Drop> Desk<J, G, T> {
     }
 
     /// What differs, if anything, at the end of a watch of so many links: what was told; or the first turn that is left; or, at
-    /// the place 0, a link that ended though it isn't among them.
+    /// the place 0, that a link has ended which isn't among them.
     pub fn settle(&self, links: u32) -> Option<Differ>
-        ensures { MatchOption result (IsSettled links self.now) (IsUnsettled T.link_of self.now) }
+        ensures { MatchOption result (IsSettled links self.now) (IsUnsettled T.link_of links self.now) }
     {
         if let Some(differ) = self.differs {
             return Some(differ);
@@ -116,9 +117,10 @@ impl<J: Naming, G: Logged<Turn = T>, T: LinkTurn + Drop> Desk<J, G, T> {
         }
     }
 
-    /// Whether the history has the log of this receipt.
+    /// Whether the history has the log of this receipt: not where the receipt shows none, or is of a longer history.
     pub fn shows(&self, receipt: &Receipt<J, G>) -> bool
-        ensures { IsTrue result → IsShown self.now receipt.now }
+        ensures shown { IsTrue result → IsShown self.now receipt.now }
+        ensures unshown { result ≡ false → IsUnshown self.now receipt.now }
     {
         receipt.is_shown && self.front.covers(&receipt.front)
     }

@@ -1,5 +1,5 @@
 ghost use Rattle.std.specs.Prelude.{◌≡◌, ℕ, ◌<◌, ◌∷◌, IfOk, IsTrue, false, true, length, replicate};
-ghost use Rattle.sig_desk.specs.Views.{IsOpen};
+ghost use Rattle.sig_desk.specs.Views.{HasClosed, IsOpen};
 
 use sig_json::Memory;
 use std::alloc::Global;
@@ -17,7 +17,8 @@ pub fn marks_for(alloc: Global, links: u32) -> Result<Vec<bool>, Memory>
 
 /// Whether all links after so many are open.
 pub fn are_open_after(marks: &[bool], links: u32) -> bool
-    ensures { IsTrue result → (number : ℕ) → links < number → number < length marks.now → IsOpen marks.now number }
+    ensures open { IsTrue result → (number : ℕ) → links < number → number < length marks.now → IsOpen marks.now number }
+    ensures closed { result ≡ false → HasClosed links marks.now }
 {
     for i in links as usize + 1..marks.len() {
         if !marks[i] {

@@ -5,6 +5,8 @@ use Rattle.sig_jws.specs.declared.mac.TheConstants.{MAC_BYTES}
 use Rattle.sig_number.specs.declared.modulus.TheConstants.{MODULUS_BYTES_LEAST, MODULUS_BYTES_MOST}
 use Rattle.sig_http.specs.declared.limits.TheConstants.{CHUNK_LINE_BYTES, CHUNK_DIGITS, TRAILER_BYTES}
 use Rattle.sig_http.specs.Chunks.{frame_bytes}
+use Rattle.sig_http.specs.Taking.{taken_bytes}
+use Rattle.sig_dial.specs.Reading.{exchange_bytes}
 use Rattle.sig_dial.specs.declared.limits.TheConstants.{INTERIM_RESPONSES}
 use Rattle.sig_watch.specs.declared.limits.TheConstants.{LINKS_PER_WATCH}
 use Rattle.sig_system.specs.declared.deadline.TheConstants.{LINK_MILLISECONDS, REQUEST_MILLISECONDS, IDLE_MILLISECONDS, HURRY_MILLISECONDS, EXCHANGE_MILLISECONDS, READ_MILLISECONDS, WRITE_MILLISECONDS}
@@ -29,6 +31,9 @@ pub record MessageFigures : Type 0 where
   pub interim : INTERIM_RESPONSES ≡ 5
   pub beside_request : frame_bytes REQUEST_BODY_BYTES ≡ 7424
   pub beside_response : frame_bytes RESPONSE_BODY_BYTES ≡ 50432
+  pub taken_request : taken_bytes REQUEST_BODY_BYTES ≡ 93440
+  pub taken_response : taken_bytes RESPONSE_BODY_BYTES ≡ 595200
+  pub exchange : exchange_bytes ≡ 3571200
 
 -- how many links there are, and how long each lasts
 pub record LinkFigures : Type 0 where

@@ -14,13 +14,7 @@ use Rattle.sig_watch.specs.Ends as watch
 use Rattle.sig_watch.specs.declared.report.Report.{Report}
 use Rattle.sig_watch.specs.declared.report.WatchEnd.{WatchEnd}
 use Rattle.sig_receive.specs.Door.{with_door}
-use Rattle.sig_receive.specs.Watches.{IsWatch, Watch}
-
--- why a watch ended, by the turns of its logs beside the node's
-abbrev pub WhyEnded : {D : Type 0} → RxRules → NodeView D → Report → WatchEnd (NodeView D) → DoorView → DoorView → Type 0
-WhyEnded {D} rules now report end old new =
-    watch.WhyEnded (λ (t : RxTurn). t.link) (λ (log : LinkLog RxTurn). log.link) (λ (log : LinkLog RxTurn). log.turns) (λ (node : NodeView D). node.turns) (λ (node : NodeView D). is_some node.kept.store.broken_at)
-    (ServesOne rules) now report end old new
+use Rattle.sig_receive.specs.Watches.{IsWatch, Watch, WhyEnded}
 
 -- what a watch says of the node and the door, as a watch of a run
 pub watch_is : {D : Type 0} (told : D → Bool) (seen : D → List ℕ) (may_leave : D → List ℕ → Type 0) (old now : NodeView D) (report : Report) (end : WatchEnd (NodeView D)) (door door' : DoorView)

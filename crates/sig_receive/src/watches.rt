@@ -4,7 +4,9 @@ ghost use Rattle.std.specs.Prelude.{◌≡◌, ◌<◌, IfNone, IfSome, None, So
 ghost use Rattle.sig_opening.specs.Ends.{BreaksAfter};
 ghost use Rattle.sig_opening.specs.Watches.{GoesOn, RunsTo, StopsAt};
 ghost use Rattle.sig_receive.specs.Door.{with_door};
-ghost use Rattle.sig_receive.specs.Watches.{IsWatch, tells_of};
+ghost use Rattle.sig_receive.specs.Watches.{IsWatch, WhyEnded, tells_of};
+ghost use Rattle.sig_rxend.specs.Ends.{Follows, IsOneHistory};
+ghost use Rattle.sig_watch.specs.Ends.{HandsBack, IfReport};
 
 use crate::ServeEnd;
 use sig_links::Door;
@@ -77,7 +79,7 @@ fn run_watch<R: Threads + Wait + Sync, D: Disk + Send, A: Door>(
     ensures breaks { IfSome result.end (λ end. BreaksAfter end result.node.kept.store.broken_at) }
     ensures network { IfSome result.end (λ end. end ≡ ServeEnd.NetworkFailed → 0 < (A.view door.new).faults) }
 {
-    match serve_watch::<Receiver<D>, R, A>(alloc, rt, node, door) {
+    match one_watch(alloc, rt, node, door) {
         WatchEnd::Done { node, report } => Watched {
             node,
             end: end_after(report.shut),
@@ -105,6 +107,23 @@ fn run_watch<R: Threads + Wait + Sync, D: Disk + Send, A: Door>(
             end: Some(ServeEnd::Memory),
         },
     }
+}
+
+// One watch. A receiver knows nothing beside its node.
+fn one_watch<R: Threads + Wait + Sync, D: Disk + Send, A: Door>(
+    alloc: Global,
+    rt: &R,
+    node: RxNode<D>,
+    door: &mut A,
+) -> WatchEnd<RxNode<D>>
+    requires { node.kept.store.broken_at ≡ None }
+    ensures follows { IfReport result (λ now report. Follows D.told node now) }
+    ensures history { IfReport result (λ now report. IsOneHistory D.told D.seen D.may_leave now) }
+    ensures links { IfReport result (λ now report. WhyEnded node.rules now report result (A.view door.old) (A.view door.new)) }
+    ensures memory { HandsBack node door.old door.new result }
+{
+    let (ended, ()) = serve_watch::<Receiver<D>, R, A>(alloc, rt, node, (), door);
+    ended
 }
 
 // How the run ends after a watch that reports so of its door.

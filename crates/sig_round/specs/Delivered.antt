@@ -1,5 +1,5 @@
 -- What a round does with the tokens that it was handed (RFC 8935, section 2).
-use Rattle.std.specs.Prelude.{◌≡◌, ◌↔◌, ◌⊎◌, ℕ, List, [], ◌∷◌, ◌++◌, true, Option, Some, None, Result, Ok, Err, IsOk, ⊤}
+use Rattle.std.specs.Prelude.{◌≡◌, ◌↔◌, ◌⊎◌, List, [], ◌∷◌, ◌++◌, true, Option, Some, None, Result, Ok, Err, IsOk, ⊤}
 use Rattle.std.specs.Option.{option_to_list}
 use Rattle.sig_links.specs.Told.{LinkPlan, Sent}
 use Rattle.sig_push.specs.Pushed.{Counts, IsHeard, IsSent}

@@ -3,12 +3,13 @@
 ghost use Rattle.std.specs.Prelude.{◌≡◌, [], ◌∷◌, ◌++◌, List, IfOk, OnErr, OnOk, is_err};
 ghost use Rattle.sig_round.specs.Delivered.{Delivered};
 ghost use Rattle.sig_round.specs.Rounds as handed;
-ghost use Rattle.sig_round.specs.Rounds.{AllRounded, Attempted, Rounded};
+ghost use Rattle.sig_round.specs.Rounds.{AllRounded, Attempted, PassedOrAttempted, Rounded};
 ghost use Rattle.sig_round.specs.Turns.{Adds, AddsTurnOf};
 ghost use Rattle.sig_txnode.specs.declared.turn.Turn.{Turn};
 
-use crate::TurnLog;
 use crate::delivering::deliver_all;
+use crate::{Passing, TurnLog};
+use sig_json::limits::TOKENS_PER_PAGE;
 use sig_json::{Items, Memory, Text, copy_items};
 use sig_links::Side;
 use sig_push::PushFault;
@@ -17,14 +18,14 @@ use sig_txnode::{Taker, Turn};
 use std::alloc::Global;
 use std::sync::Wait;
 
-/// Rounds of pushes of these streams, one after another: each has a round of its own, and where a push of it has no answer that
-/// round ends, and the next stream's follows.
+/// Rounds of pushes of these streams, one after another: each has a round of its own, unless the taker has it passed over, and
+/// where a push of it has no answer that round ends, and the next stream's follows. The taker is told of each round that ended.
 ///
 /// The side has a bound in time for each of them: a push that would come later has no answer, and so its stream's round ends.
 /// What is left of the stream stays owed.
 ///
 /// `Memory` says that memory ran out, in a push or in a turn; then the streams that are left have no round.
-pub fn push_rounds<R: Wait, K: Taker, S: Side>(
+pub fn push_rounds<R: Wait, K: Passing, S: Side>(
     alloc: Global,
     rt: &R,
     taker: &mut K,
@@ -33,15 +34,64 @@ pub fn push_rounds<R: Wait, K: Taker, S: Side>(
     side: &mut S,
     log: &mut TurnLog,
 ) -> Result<(), Memory>
-    ensures rounds { AllRounded rules.now (record { link = log.old.link; now = log.old.now }) streams.now (S.view side.old) (S.view side.new)
-        log.old.turns.items log.new.turns.items (K.told taker.old) (K.told taker.new) (is_err result) }
+    ensures rounds { AllRounded K.passes rules.now (record { link = log.old.link; now = log.old.now }) streams.now (S.view side.old) (S.view side.new)
+        log.old.turns.items log.new.turns.items (K.Taker.told taker.old) (K.Taker.told taker.new) (is_err result) }
     ensures link { log.new.link ≡ log.old.link }
     ensures now { log.new.now ≡ log.old.now }
 {
     for stream in streams {
-        push_round(alloc, rt, taker, rules, stream, side, log)?;
+        round_or_pass(alloc, rt, taker, rules, stream, side, log)?;
     }
     Ok(())
+}
+
+// The round of one stream, unless it is passed over.
+fn round_or_pass<R: Wait, K: Passing, S: Side>(
+    alloc: Global,
+    rt: &R,
+    taker: &mut K,
+    rules: &Rules,
+    stream: &Text,
+    side: &mut S,
+    log: &mut TurnLog,
+) -> Result<(), Memory>
+    ensures rounds { PassedOrAttempted K.passes rules.now (record { link = log.old.link; now = log.old.now }) stream.now (S.view side.old) (S.view side.new)
+        log.old.turns.items log.new.turns.items (K.Taker.told taker.old) (K.Taker.told taker.new) (is_err result) }
+    ensures link { log.new.link ≡ log.old.link }
+    ensures now { log.new.now ≡ log.old.now }
+{
+    if !taker.begins(rt, stream) {
+        return Ok(());
+    }
+    let before = log.turns.len();
+    let end = push_round(alloc, rt, taker, rules, stream, side, log);
+    taker.ended(rt, stream, &log.turns[before..]);
+    end
+}
+
+/// Whether a round of these turns leaves nothing for another: it was handed fewer tokens than a page has, and each of them was
+/// settled.
+pub fn is_brought(turns: &[Turn]) -> bool {
+    let Some((hand, settles)) = turns.split_first() else {
+        return false;
+    };
+    match &hand.result {
+        Ok(Answer::Handed { tokens }) => {
+            let handed = tokens.as_slice().len();
+            handed < TOKENS_PER_PAGE
+                && handed == settles.len()
+                && settles.iter().all(|turn| settled_one(turn))
+        }
+        _ => false,
+    }
+}
+
+// Whether a turn settled a token.
+fn settled_one(turn: &Turn) -> bool {
+    match &turn.result {
+        Ok(Answer::Settled { count }) => *count > 0,
+        _ => false,
+    }
 }
 
 // The round of one stream, for which the side has a bound in time. Only memory that runs out is more than its own end.

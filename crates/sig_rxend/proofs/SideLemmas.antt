@@ -10,7 +10,7 @@ use Rattle.sig_serving.specs.declared.link_end.LinkEnd.TheVariants.{End, Spent, 
 use Rattle.sig_link.specs.Course.{Comes, IsFollowed}
 use Rattle.sig_link.specs.Exchange.{AreMade, Exchange, MakesTurns}
 use Rattle.sig_link.specs.Moment.{Moment}
-use Rattle.sig_link.specs.Serving.{Ends, Serves}
+use Rattle.sig_link.specs.Serving.{Ends}
 use Rattle.sig_link.specs.declared.course.Course.{Course}
 use Rattle.sig_link.specs.declared.course.Course.TheVariants.{Refused, Turned}
 use Rattle.sig_rxend.specs.Laws.{LeavesSides}

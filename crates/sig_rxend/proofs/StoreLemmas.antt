@@ -1,5 +1,5 @@
 -- A receiver's node between the files that are opened and those that are put back.
-use Rattle.std.proofs.Common.{◌≡◌, ℕ, Bool, List, Option, Some, None, Result, Ok, Err, sym}
+use Rattle.std.proofs.Common.{◌≡◌, ℕ, Bool, List, Some, Result, Ok, Err, sym}
 use Rattle.std.specs.Prelude.{IsTrue, ⊤}
 use Rattle.sig_entry.specs.Tokens.{decoded_token}
 use Rattle.sig_fields.specs.declared.fault.DecodeFault.{DecodeFault}

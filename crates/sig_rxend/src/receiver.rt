@@ -1,11 +1,12 @@
 use crate::noting::serve_link;
 use crate::{Locked, RxEnd};
 use sig_book::Naming;
-use sig_json::Memory;
+use sig_json::{Items, Memory};
 use sig_link::LinkLog;
 use sig_links::{Link, Side};
 use sig_outside::Disk;
 use sig_rxnode::{RxNode, RxRules, RxTurn};
+use sig_serving::LinkEnd;
 use sig_watch::{Lasting, Opened, Served, Shared};
 use std::alloc::Global;
 use std::marker::PhantomData;
@@ -23,6 +24,8 @@ impl<D: Disk> Lasting for Receiver<D> {
     type Node = RxNode<D>;
 
     type Log = LinkLog<RxTurn>;
+
+    type Company = ();
 
     ghost follows = { Follows D.told };
 
@@ -53,6 +56,26 @@ impl<D: Disk> Served for Receiver<D> {
 
     fn recalls(node: &RxNode<D>) {
         let _ = node.broken_at();
+    }
+
+    // A receiver does nothing by itself.
+    fn wants_errand(_company: &mut (), _now: u64) -> bool {
+        false
+    }
+
+    fn errand<O: Opened<RxNode<D>> + Naming, R: Wait, S: Side>(
+        alloc: Global,
+        _rt: &R,
+        _node: &Mutex<Shared<Receiver<D>, O>>,
+        _rules: &RxRules,
+        number: u32,
+        _side: &mut S,
+    ) -> LinkLog<RxTurn> {
+        LinkLog {
+            link: number,
+            turns: Items::of(Vec::new(alloc)),
+            end: LinkEnd::End,
+        }
     }
 
     fn serve<O: Opened<RxNode<D>> + Naming, R: Wait, L: Link, S: Side>(

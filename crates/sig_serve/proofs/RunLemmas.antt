@@ -14,13 +14,7 @@ use Rattle.sig_watch.specs.Ends as watch
 use Rattle.sig_watch.specs.declared.report.Report.{Report}
 use Rattle.sig_watch.specs.declared.report.WatchEnd.{WatchEnd}
 use Rattle.sig_serve.specs.Door.{with_door}
-use Rattle.sig_serve.specs.Watches.{IsWatch, Watch}
-
--- why a watch ended, by the turns of its logs beside the node's
-abbrev pub WhyEnded : {D : Type 0} → Rules → NodeView D → Report → WatchEnd (NodeView D) → DoorView → DoorView → Type 0
-WhyEnded {D} rules now report end old new =
-    watch.WhyEnded (λ (t : Turn). t.link) (λ (log : LinkLog Turn). log.link) (λ (log : LinkLog Turn). log.turns) (λ (node : NodeView D). node.turns) (λ (node : NodeView D). is_some node.store.broken_at)
-    (ServesOne rules) now report end old new
+use Rattle.sig_serve.specs.Watches.{IsWatch, Watch, WhyEnded}
 
 -- what a watch says of the node and the door, as a watch of a run
 pub watch_is : {D : Type 0} (told : D → Bool) (seen : D → List ℕ) (may_leave : D → List ℕ → Type 0) (old now : NodeView D) (report : Report) (end : WatchEnd (NodeView D)) (door door' : DoorView)

@@ -4,15 +4,18 @@ ghost use Rattle.std.specs.Prelude.{◌≡◌, ◌<◌, IfNone, IfSome, None, So
 ghost use Rattle.sig_opening.specs.Ends.{BreaksAfter};
 ghost use Rattle.sig_opening.specs.Watches.{GoesOn, RunsTo, StopsAt};
 ghost use Rattle.sig_serve.specs.Door.{with_door};
-ghost use Rattle.sig_serve.specs.Watches.{IsWatch, tells_of};
+ghost use Rattle.sig_serve.specs.Watches.{IsWatch, WhyEnded, tells_of};
+ghost use Rattle.sig_txend.specs.Ends.{Follows, IsOneHistory};
+ghost use Rattle.sig_watch.specs.Ends.{HandsBack, IfReport};
 
 use crate::ServeEnd;
 use sig_links::Door;
 use sig_outside::Disk;
-use sig_txend::Transmitter;
+use sig_txend::{Company, Transmitter};
 use sig_txnode::TxNode;
 use sig_watch::{WatchEnd, serve_watch};
 use std::alloc::Global;
+use std::mem::replace;
 use std::sync::Wait;
 use std::thread::Threads;
 
@@ -45,8 +48,9 @@ pub fn run_watches<R: Threads + Wait + Sync, D: Disk + Send, A: Door>(
     ensures network { result.end ≡ ServeEnd.NetworkFailed → 0 < (A.view door.new).faults }
 {
     let mut node = node;
+    let mut company = Company::new(alloc);
     for _ in 0..watches {
-        let Watched { node: next, end } = run_watch(alloc, rt, node, door);
+        let Watched { node: next, end } = run_watch(alloc, rt, node, &mut company, door);
         node = next;
         if let Some(end) = end {
             return Served { node, end };
@@ -63,6 +67,7 @@ fn run_watch<R: Threads + Wait + Sync, D: Disk + Send, A: Door>(
     alloc: Global,
     rt: &R,
     node: TxNode<D>,
+    company: &mut Company,
     door: &mut A,
 ) -> Watched<D>
     requires { node.store.broken_at ≡ None }
@@ -77,7 +82,7 @@ fn run_watch<R: Threads + Wait + Sync, D: Disk + Send, A: Door>(
     ensures breaks { IfSome result.end (λ end. BreaksAfter end result.node.store.broken_at) }
     ensures network { IfSome result.end (λ end. end ≡ ServeEnd.NetworkFailed → 0 < (A.view door.new).faults) }
 {
-    match serve_watch::<Transmitter<D>, R, A>(alloc, rt, node, door) {
+    match one_watch(alloc, rt, node, company, door) {
         WatchEnd::Done { node, report } => Watched {
             node,
             end: end_after(report.shut),
@@ -105,6 +110,26 @@ fn run_watch<R: Threads + Wait + Sync, D: Disk + Send, A: Door>(
             end: Some(ServeEnd::Memory),
         },
     }
+}
+
+// One watch, over what its links and errands know together, which goes from watch to watch.
+fn one_watch<R: Threads + Wait + Sync, D: Disk + Send, A: Door>(
+    alloc: Global,
+    rt: &R,
+    node: TxNode<D>,
+    company: &mut Company,
+    door: &mut A,
+) -> WatchEnd<TxNode<D>>
+    requires { node.store.broken_at ≡ None }
+    ensures follows { IfReport result (λ now report. Follows D.told node now) }
+    ensures history { IfReport result (λ now report. IsOneHistory D.told D.seen D.may_leave now) }
+    ensures links { IfReport result (λ now report. WhyEnded node.rules now report result (A.view door.old) (A.view door.new)) }
+    ensures memory { HandsBack node door.old door.new result }
+{
+    let known = replace(company, Company::new(alloc));
+    let (ended, known) = serve_watch::<Transmitter<D>, R, A>(alloc, rt, node, known, door);
+    *company = known;
+    ended
 }
 
 // How the run ends after a watch that reports so of its door.

@@ -28,6 +28,15 @@ impl Bell {
         Some(Bell { rung, heard })
     }
 
+    /// A copy of this end, which has heard what this one has. There is none where too many share the bell.
+    pub fn again(&self) -> Option<Bell> {
+        let rung = Arc::try_clone(&self.rung).ok()?;
+        Some(Bell {
+            rung,
+            heard: self.heard,
+        })
+    }
+
     /// Rings it for all ends that were made before.
     pub fn ring(&self) {
         self.rung.fetch_add(1, Ordering::SeqCst);

@@ -179,7 +179,7 @@ impl<
     }
 
     fn side(&mut self) -> TcpSide<R> {
-        TcpSide::new(self.alloc, self.rt, self.notes.shared())
+        TcpSide::new(self.alloc, self.rt, self.notes.shared(), None)
     }
 
     fn back_door(&mut self, door: TcpDoor<R>) {

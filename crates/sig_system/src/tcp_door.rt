@@ -188,7 +188,7 @@ impl<R: Net<Listener = TcpListener, Stream = TcpStream> + Clock + Eprint + Copy 
         match self.next_link() {
             Ok(Some(link)) => Ok(Accepted::Link {
                 link,
-                side: TcpSide::new(self.alloc, self.rt, self.notes.shared()),
+                side: TcpSide::new(self.alloc, self.rt, self.notes.shared(), self.bell.shared()),
             }),
             Ok(None) => Ok(Accepted::Waited),
             Err(_) => Err(self.faults.raise()),
@@ -198,7 +198,7 @@ impl<R: Net<Listener = TcpListener, Stream = TcpStream> + Clock + Eprint + Copy 
     fn back(&mut self, _link: TcpLink<R>, _side: TcpSide<R>) {}
 
     fn own_side(&mut self) -> TcpSide<R> {
-        TcpSide::new(self.alloc, self.rt, self.notes.shared())
+        TcpSide::new(self.alloc, self.rt, self.notes.shared(), self.bell.shared())
     }
 
     fn hurry(&mut self) {

@@ -2,6 +2,7 @@ ghost use Rattle.std.specs.Prelude.{◌≡◌, None, Some, IfOk, IfSome};
 ghost use Rattle.sig_outside.specs.Causes.{HasCause};
 ghost use Rattle.sig_system.specs.Adapters.{pair_of, untold, unused};
 
+use crate::bell::Bell;
 use crate::deadline::{exchange_after, within};
 use crate::timing::milliseconds;
 use crate::{Notes, TcpLink};
@@ -29,6 +30,8 @@ pub struct TcpSide<R> {
     // When the round began whose links it dials, if it is asked for rounds.
     round: Option<Instant>,
     notes: Notes,
+    // What asks the links that it dials to end soon, if its door does.
+    bell: Option<Bell>,
     faults: FaultCount,
 }
 
@@ -41,8 +44,9 @@ impl<R> Model for TcpSide<R> {
 }
 
 impl<R> TcpSide<R> {
-    /// A side that has met no fault, and tells lines by these notes.
-    pub fn new(alloc: Global, rt: R, notes: Notes) -> TcpSide<R>
+    /// A side that has met no fault, and tells lines by these notes. Once this bell is rung its links end soon, also those that
+    /// it dials later.
+    pub fn new(alloc: Global, rt: R, notes: Notes, bell: Option<Bell>) -> TcpSide<R>
         ensures { result ≡ 0 }
     {
         TcpSide {
@@ -51,6 +55,7 @@ impl<R> TcpSide<R> {
             time: 0,
             round: None,
             notes,
+            bell,
             faults: FaultCount::new(),
         }
     }
@@ -76,7 +81,7 @@ impl<R: Net<Stream = TcpStream> + Clock + Eprint + Copy> Side for TcpSide<R> {
         ensures link { IfOk result (λ link. link ≡ unused (Some (pair_of place.now))) }
         ensures cause { HasCause self.old self.new result }
     {
-        match connect(self.alloc, self.rt, place, &self.round) {
+        match connect(self.alloc, self.rt, place, &self.round, &self.bell) {
             Some(link) => Ok(link),
             None => Err(self.faults.raise()),
         }
@@ -113,6 +118,7 @@ fn connect<R: Net<Stream = TcpStream> + Clock + Copy>(
     rt: R,
     place: &Place,
     round: &Option<Instant>,
+    bell: &Option<Bell>,
 ) -> Option<TcpLink<R>>
     ensures { IfSome result (λ link. link ≡ unused (Some (pair_of place.now))) }
 {
@@ -125,7 +131,8 @@ fn connect<R: Net<Stream = TcpStream> + Clock + Copy>(
         let wait = Duration::from_millis(within(left, DIAL_SECONDS * 1_000, lasted)?);
         if let Ok(stream) = TcpStream::connect_timeout(&rt, &address, wait) {
             let left = left_of(&rt, round)?;
-            return TcpLink::over(stream, Some(kept), rt, left, None).ok();
+            let heard = bell.as_ref().and_then(|bell| bell.again());
+            return TcpLink::over(stream, Some(kept), rt, left, heard).ok();
         }
     }
     None

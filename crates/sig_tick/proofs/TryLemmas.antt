@@ -1,5 +1,5 @@
 -- Streams that are tried, one after another.
-use Rattle.std.proofs.Common.{◌≡◌, ◌∙◌, sym, ap, subst, refl, ℕ, ◌+◌, ◌<◌, ◌≤◌, Bool, true, false, List, [], ◌∷◌, ◌++◌, length, get_or, drop, Option, Some, None, Result, Ok, Err, inl, inr, arith, append-nil, append_assoc, nat_le}
+use Rattle.std.proofs.Common.{◌≡◌, ◌∙◌, sym, ap, subst, refl, ℕ, ◌==◌, ◌+◌, ◌<◌, ◌≤◌, Bool, true, false, List, [], ◌∷◌, ◌++◌, length, get_or, drop, Option, Some, None, Result, Ok, Err, inl, inr, arith, append-nil, append_assoc, nat_le}
 use Rattle.std.specs.Option.{option_to_list}
 use Rattle.std.specs.Prelude.{⊤}
 use Rattle.std.proofs.Math.Seq.{drop-append_seam}
@@ -22,9 +22,10 @@ use Rattle.sig_round.specs.Turns.{Adds, AddsTurnOf, Asker}
 use Rattle.sig_round.proofs.Grown.{adds_none, adds_on}
 use Rattle.sig_tick.specs.Bringing.{Brings, Brought, are_settled, attempt_of}
 use Rattle.sig_tick.specs.Listing.{ended}
-use Rattle.sig_tick.specs.Trying.{IsIdle, Noted, Tried, TriedDue, TriedHanded, TriedOne, TriesHanded, TriesTokens, TriesWhere, is_due}
+use Rattle.sig_tick.specs.Trying.{Attempted, AttemptedHanded, AttemptedTokens, IsIdle, Tried, TriedDue, TriedOne, TriesHanded, TriesTokens, TriesWhere, attempt_for, is_due, made_at}
+use Rattle.sig_tick.specs.declared.attempting.Trial.{Trial}
 use Rattle.sig_tick.proofs.AskLemmas.{ok_no_err}
-use Rattle.sig_tick.proofs.Collecting.{next_item, same_asker}
+use Rattle.sig_tick.proofs.Collecting.{next_item, none_of, same_asker}
 
 -- ---- notes
 
@@ -36,114 +37,137 @@ notes_none kept log is = subst (λ (l : List Attempt). IsLogged kept l) (sym (ap
 pub room_notes : (kept kept' : Kept) (log : List Attempt) → StaysLogged kept kept' → IsLogged kept log → IsLogged kept' log
 room_notes kept kept' log stays is stream = stays stream ∙ is stream
 
--- ---- one attempt
-
-pub noted_by : (rules : Rules) (by : Asker) (stream : List ℕ) (tokens : List Token) (kept kept' : Kept) (a between b : SideView) (x y : List Turn) (k l : Option TakerTold) (end : Result ⊤ NodeFault) (at : ℕ) (good : Bool)
-    → between ≡ a → Brought rules by tokens between b x y k l end → at ≡ time_used by.now → good ≡ are_settled (length tokens) (drop (length x) y)
-    → ((log : List Attempt) → IsLogged kept log → IsLogged kept' (log ++ record { stream = stream; at = at; tokens = length tokens; good = good } ∷ []))
-    → Noted rules by stream tokens kept kept' a b x y k l (record { stream = stream; at = at; tokens = length tokens; good = good }) end
-noted_by rules by stream tokens kept kept' a between b x y k l end at good same p' is settled notes =
-    let p = subst (λ (v : SideView). Brought rules by tokens v b x y k l end) same p' in
-    let more : drop (length x) y ≡ p.more = ap (drop (length x)) p.adds.log ∙ drop-append_seam x p.more in
-    record {
-      more = p.more;
-      adds = p.adds;
-      notes = notes;
-      is = ap (λ (n : ℕ). record { stream = stream; at = n; tokens = length tokens; good = good }) is
-          ∙ ap (λ (g : Bool). record { stream = stream; at = time_used by.now; tokens = length tokens; good = g }) (settled ∙ ap (are_settled (length tokens)) more);
-      brings = p.brings;
-    }
-
--- ---- after a Hand turn
+-- ---- tokens that are brought
 
 idle : (v : SideView) → IsIdle v v [] None
 idle v = record { turns_none = refl; side = refl; none = refl }
 
-handed_none : (rules : Rules) (by : Asker) (stream : List ℕ) (handed : Result Answer NodeFault) (kept kept' : Kept) (v : SideView) (x : List Turn) (k : Option TakerTold) (end : Result ⊤ NodeFault)
-    → StaysLogged kept kept' → TriesHanded rules by stream handed v v [] None end → TriedHanded rules by stream handed kept kept' v v x x k k None end
-handed_none rules by stream handed kept kept' v x k end stays t = record {
+-- some tokens make an attempt
+some_made : (at : ℕ) (stream : List ℕ) (n : ℕ) (good : Bool) (end : Result ⊤ NodeFault) → (n ≡ 0 → ⊥)
+    → made_at at stream (record { tokens = n; good = good; end = end }) ≡ Some (record { stream = stream; at = at; tokens = n; good = good })
+some_made at stream n good end some = by (n == 0) refl
+  where
+    by : (b : Bool) → (n == 0) ≡ b → made_at at stream (record { tokens = n; good = good; end = end }) ≡ Some (record { stream = stream; at = at; tokens = n; good = good })
+    by true is = let none : n ≡ 0 = grind (arith, nat_tests) in absurd (some none)
+    by false is = rw is refl
+
+pub tokens_none : (rules : Rules) (by : Asker) (stream : List ℕ) (tokens : List Token) (v : SideView) (x : List Turn) (k : Option TakerTold) (u : ⊤) → tokens ≡ []
+    → AttemptedTokens rules by stream tokens v v x x k k None (Ok u)
+tokens_none rules by stream tokens v x k u none = record {
   more = [];
   adds = adds_none x k;
-  notes = λ log is. notes_none kept' log (room_notes kept kept' log stays is);
-  tries = t;
+  tries = subst (λ (ts : List Token). TriesTokens rules by stream ts v v [] None (Ok u)) (sym none) (idle v, inl refl);
 }
 
-pub same_kept : (kept : Kept) → StaysLogged kept kept
-same_kept kept stream = refl
+tokens_tried : (rules : Rules) (by : Asker) (stream : List ℕ) (tokens : List Token) (a b : SideView) (more : List Turn) (attempt : Attempt) (end : Result ⊤ NodeFault) → (tokens ≡ [] → ⊥)
+    → attempt ≡ attempt_of stream by tokens more → Brings rules by tokens a b more end → TriesTokens rules by stream tokens a b more (Some attempt) end
+tokens_tried rules by stream [] a b more attempt end some is p = absurd (some refl)
+tokens_tried rules by stream (t ∷ tokens) a b more attempt end some is p = (is, p)
+
+no_tokens : (tokens : List Token) → length tokens ≡ 0 → tokens ≡ []
+no_tokens tokens none = none_of tokens none
+
+pub tokens_brought : (rules : Rules) (by : Asker) (stream : List ℕ) (tokens : List Token) (a between b : SideView) (x y : List Turn) (k l : Option TakerTold) (end : Result ⊤ NodeFault) (good : Bool)
+    → (tokens ≡ [] → ⊥) → between ≡ a → Brought rules by tokens between b x y k l end → good ≡ are_settled (length tokens) (drop (length x) y)
+    → AttemptedTokens rules by stream tokens a b x y k l (attempt_for stream by (record { tokens = length tokens; good = good; end = end })) end
+tokens_brought rules by stream tokens a between b x y k l end good some same p' settled =
+    let p = subst (λ (v : SideView). Brought rules by tokens v b x y k l end) same p' in
+    let more : drop (length x) y ≡ p.more = ap (drop (length x)) p.adds.log ∙ drop-append_seam x p.more in
+    let made = some_made (time_used by.now) stream (length tokens) good end (λ none. some (no_tokens tokens none)) in
+    record {
+      more = p.more;
+      adds = p.adds;
+      tries = subst (λ (o : Option Attempt). TriesTokens rules by stream tokens a b p.more o end) (sym made)
+          (tokens_tried rules by stream tokens a b p.more (record { stream = stream; at = time_used by.now; tokens = length tokens; good = good }) end some
+          (ap (λ (g : Bool). record { stream = stream; at = time_used by.now; tokens = length tokens; good = g }) (settled ∙ ap (are_settled (length tokens)) more)) p.brings);
+    }
+
+-- ---- after a Hand turn
+
+handed_none : (rules : Rules) (by : Asker) (stream : List ℕ) (handed : Result Answer NodeFault) (v : SideView) (x : List Turn) (k : Option TakerTold) (end : Result ⊤ NodeFault)
+    → TriesHanded rules by stream handed v v [] None end → AttemptedHanded rules by stream handed v v x x k k None end
+handed_none rules by stream handed v x k end t = record { more = []; adds = adds_none x k; tries = t }
 
 -- the turn was refused
-pub handed_refused : (rules : Rules) (by : Asker) (stream : List ℕ) (handed : Result Answer NodeFault) (kept : Kept) (v : SideView) (x : List Turn) (k : Option TakerTold) (fault : NodeFault)
-    → ◌≡◌ {A = Result ⊤ NodeFault} (Err fault) (ended handed) → TriedHanded rules by stream handed kept kept v v x x k k None (Err fault)
-handed_refused rules by stream handed kept v x k fault is = handed_none rules by stream handed kept kept v x k (Err fault) (same_kept kept) (tries handed is)
+pub handed_refused : (rules : Rules) (by : Asker) (stream : List ℕ) (handed : Result Answer NodeFault) (v : SideView) (x : List Turn) (k : Option TakerTold) (fault : NodeFault)
+    → ◌≡◌ {A = Result ⊤ NodeFault} (Err fault) (ended handed) → AttemptedHanded rules by stream handed v v x x k k None (Err fault)
+handed_refused rules by stream handed v x k fault is = handed_none rules by stream handed v x k (Err fault) (tries handed is)
   where
     tries : (r : Result Answer NodeFault) → ◌≡◌ {A = Result ⊤ NodeFault} (Err fault) (ended r) → TriesHanded rules by stream r v v [] None (Err fault)
     tries (Ok answer) h = absurd (ok_no_err tt fault (sym h))
     tries (Err f) h = (idle v, h)
+
+-- what didn't end with a fault ended well
+pub well_ended : (r : Result ⊤ NodeFault) → ((fault : NodeFault) → ◌≡◌ {A = Result ⊤ NodeFault} r (Err fault) → ⊥) → ◌≡◌ {A = Result ⊤ NodeFault} (Ok tt) r
+well_ended (Ok u) not = refl
+well_ended (Err fault) not = absurd (not fault refl)
 
 -- memory ran out after it was answered
 tokens_starved : (rules : Rules) (by : Asker) (stream : List ℕ) (tokens : List Token) (v : SideView) → TriesTokens rules by stream tokens v v [] None (Err Memory)
 tokens_starved rules by stream [] v = (idle v, inr refl)
 tokens_starved rules by stream (t ∷ tokens) v = (idle v, refl)
 
-pub handed_starved : (rules : Rules) (by : Asker) (stream : List ℕ) (handed : Result Answer NodeFault) (kept kept' : Kept) (v : SideView) (x : List Turn) (k : Option TakerTold) (u : ⊤)
-    → ◌≡◌ {A = Result ⊤ NodeFault} (Ok u) (ended handed) → StaysLogged kept kept' → TriedHanded rules by stream handed kept kept' v v x x k k None (Err Memory)
-handed_starved rules by stream handed kept kept' v x k u is stays = handed_none rules by stream handed kept kept' v x k (Err Memory) stays (tries handed is)
+pub handed_starved : (rules : Rules) (by : Asker) (stream : List ℕ) (handed : Result Answer NodeFault) (v : SideView) (x : List Turn) (k : Option TakerTold) (u : ⊤)
+    → ◌≡◌ {A = Result ⊤ NodeFault} (Ok u) (ended handed) → AttemptedHanded rules by stream handed v v x x k k None (Err Memory)
+handed_starved rules by stream handed v x k u is = handed_none rules by stream handed v x k (Err Memory) (tries handed is)
   where
     tries : (r : Result Answer NodeFault) → ◌≡◌ {A = Result ⊤ NodeFault} (Ok u) (ended r) → TriesHanded rules by stream r v v [] None (Err Memory)
     tries (Ok answer) h = tokens_starved rules by stream (tokens_in (Ok answer)) v
     tries (Err f) h = absurd (ok_no_err u f h)
 
--- it handed no token
-pub handed_nothing : (rules : Rules) (by : Asker) (stream : List ℕ) (handed : Result Answer NodeFault) (kept : Kept) (v : SideView) (x : List Turn) (k : Option TakerTold) (u w : ⊤)
-    → ◌≡◌ {A = Result ⊤ NodeFault} (Ok u) (ended handed) → tokens_in handed ≡ [] → TriedHanded rules by stream handed kept kept v v x x k k None (Ok w)
-handed_nothing rules by stream handed kept v x k u w is none = handed_none rules by stream handed kept kept v x k (Ok w) (same_kept kept) (tries handed is none)
+-- its tokens were tried
+pub handed_tokens : (rules : Rules) (by : Asker) (stream : List ℕ) (handed : Result Answer NodeFault) (tokens slice : List Token) (a b : SideView) (x y : List Turn) (k l : Option TakerTold) (u : ⊤) (attempt : Option Attempt) (end : Result ⊤ NodeFault)
+    → ◌≡◌ {A = Result ⊤ NodeFault} (Ok u) (ended handed) → tokens ≡ tokens_in handed → slice ≡ tokens
+    → AttemptedTokens rules by stream slice a b x y k l attempt end → AttemptedHanded rules by stream handed a b x y k l attempt end
+handed_tokens rules by stream handed tokens slice a b x y k l u attempt end is these sliced p =
+    record { more = p.more; adds = p.adds; tries = tries_by p.more p.tries handed is (sliced ∙ these) }
   where
-    tries : (r : Result Answer NodeFault) → ◌≡◌ {A = Result ⊤ NodeFault} (Ok u) (ended r) → tokens_in r ≡ [] → TriesHanded rules by stream r v v [] None (Ok w)
-    tries (Ok answer) h e = subst (λ (ts : List Token). TriesTokens rules by stream ts v v [] None (Ok w)) (sym e) (idle v, inl refl)
-    tries (Err f) h e = absurd (ok_no_err u f h)
+    tries_by : (more : List Turn) → TriesTokens rules by stream slice a b more attempt end
+        → (r : Result Answer NodeFault) → ◌≡◌ {A = Result ⊤ NodeFault} (Ok u) (ended r) → slice ≡ tokens_in r → TriesHanded rules by stream r a b more attempt end
+    tries_by more t (Ok answer) h e = subst (λ (ts : List Token). TriesTokens rules by stream ts a b more attempt end) e t
+    tries_by more t (Err f) h e = absurd (ok_no_err u f h)
 
--- its tokens were brought, of which there are some
-tokens_brought : (rules : Rules) (by : Asker) (stream : List ℕ) (tokens : List Token) (a b : SideView) (more : List Turn) (attempt : Attempt) (end : Result ⊤ NodeFault) → (tokens ≡ [] → ⊥)
-    → attempt ≡ attempt_of stream by tokens more → Brings rules by tokens a b more end → TriesTokens rules by stream tokens a b more (Some attempt) end
-tokens_brought rules by stream [] a b more attempt end some is p = absurd (some refl)
-tokens_brought rules by stream (t ∷ tokens) a b more attempt end some is p = (is, p)
+-- ---- an attempt
 
-pub handed_brought : (rules : Rules) (by : Asker) (stream name : List ℕ) (handed : Result Answer NodeFault) (tokens slice : List Token) (kept kept' kept'' : Kept) (a b : SideView) (x y : List Turn) (k l : Option TakerTold) (u : ⊤) (attempt : Attempt) (end : Result ⊤ NodeFault)
-    → ◌≡◌ {A = Result ⊤ NodeFault} (Ok u) (ended handed) → tokens ≡ tokens_in handed → (tokens ≡ [] → ⊥) → StaysLogged kept kept' → name ≡ stream → slice ≡ tokens
-    → Noted rules by name slice kept' kept'' a b x y k l attempt end
-    → TriedHanded rules by stream handed kept kept'' a b x y k l (Some attempt) end
-handed_brought rules by stream name handed tokens slice kept kept' kept'' a b x y k l u attempt end is these some stays named sliced q =
-    let p = subst (λ (ts : List Token). Noted rules by stream ts kept' kept'' a b x y k l attempt end) sliced
-    (subst (λ (n : List ℕ). Noted rules by n slice kept' kept'' a b x y k l attempt end) named q) in
-    record {
-      more = p.more;
-      adds = p.adds;
-      notes = λ log logged. p.notes log (room_notes kept kept' log stays logged);
-      tries = tries_by p.more p.is p.brings handed is these;
-    }
-  where
-    tries_by : (more : List Turn) → attempt ≡ attempt_of stream by tokens more → Brings rules by tokens a b more end
-        → (r : Result Answer NodeFault) → ◌≡◌ {A = Result ⊤ NodeFault} (Ok u) (ended r) → tokens ≡ tokens_in r → TriesHanded rules by stream r a b more (Some attempt) end
-    tries_by more of brings (Ok answer) h e = subst (λ (ts : List Token). TriesTokens rules by stream ts a b more (Some attempt) end) e (tokens_brought rules by stream tokens a b more attempt end some of brings)
-    tries_by more of brings (Err f) h e = absurd (ok_no_err u f h)
+pub attempted_starved : (rules : Rules) (by : Asker) (stream : List ℕ) (v : SideView) (x y : List Turn) (k l : Option TakerTold) → Adds [] x y k l
+    → Attempted rules by stream v v x y k l None (Err Memory)
+attempted_starved rules by stream v x y k l a = record { more = []; adds = a; tries = (idle v, refl) }
 
--- ---- a stream that is due
-
-pub due_starved : (rules : Rules) (by : Asker) (stream : List ℕ) (kept : Kept) (v : SideView) (x y : List Turn) (k l : Option TakerTold) → Adds [] x y k l
-    → TriedDue rules by stream kept kept v v x y k l None (Err Memory)
-due_starved rules by stream kept v x y k l a = record { more = []; adds = a; notes = notes_none kept; tries = (idle v, refl) }
-
-pub due_handed : (rules : Rules) (link link' time time' : ℕ) (stream : List ℕ) (kept kept' : Kept) (a b : SideView) (x y z : List Turn) (k l m : Option TakerTold) (attempt : Option Attempt) (end : Result ⊤ NodeFault)
+pub attempted_handed : (rules : Rules) (link link' time time' : ℕ) (stream : List ℕ) (a b : SideView) (x y z : List Turn) (k l m : Option TakerTold) (trial : Trial)
     → link ≡ link' → time ≡ time' → (asked : AddsTurnOf (record { link = link'; now = time' }) (Hand (stream ∷ [])) x y k l)
-    → TriedHanded rules (record { link = link; now = time }) stream asked.0.result kept kept' a b y z l m attempt end
-    → TriedDue rules (record { link = link'; now = time' }) stream kept kept' a b x z k m attempt end
-due_handed rules link link' time time' stream kept kept' a b x y z k l m attempt end e f asked q =
-    let p = subst (λ (by : Asker). TriedHanded rules by stream asked.0.result kept kept' a b y z l m attempt end) (same_asker link link' time time' e f) q in
+    → AttemptedHanded rules (record { link = link; now = time }) stream asked.0.result a b y z l m (attempt_for stream (record { link = link; now = time }) trial) trial.end
+    → Attempted rules (record { link = link'; now = time' }) stream a b x z k m (attempt_for stream (record { link = link'; now = time' }) trial) trial.end
+attempted_handed rules link link' time time' stream a b x y z k l m trial e f asked q =
+    let p = subst (λ (by : Asker). AttemptedHanded rules by stream asked.0.result a b y z l m (attempt_for stream by trial) trial.end) (same_asker link link' time time' e f) q in
     record {
       more = asked.0 ∷ p.more;
       adds = adds_on (asked.0 ∷ []) p.more x y z k l m asked.2 p.adds;
-      notes = p.notes;
       tries = (asked.1, p.tries);
+    }
+
+-- ---- a stream that is due
+
+pub due_starved : (rules : Rules) (by : Asker) (stream : List ℕ) (kept kept' : Kept) (v : SideView) (x : List Turn) (k : Option TakerTold) → StaysLogged kept kept'
+    → TriedDue rules by stream kept kept' v v x x k k None (Err Memory)
+due_starved rules by stream kept kept' v x k stays = record {
+  attempted = attempted_starved rules by stream v x x k k (adds_none x k);
+  notes = λ log is. notes_none kept' log (room_notes kept kept' log stays is);
+}
+
+pub same_kept : (kept : Kept) → StaysLogged kept kept
+same_kept kept stream = refl
+
+pub due_attempted : (rules : Rules) (by : Asker) (stream name : List ℕ) (kept kept' kept'' : Kept) (a b : SideView) (x y : List Turn) (k l : Option TakerTold) (trial : Trial) (at : ℕ) (end : Result ⊤ NodeFault)
+    → StaysLogged kept kept' → name ≡ stream → at ≡ time_used by.now → end ≡ trial.end
+    → Attempted rules by stream a b x y k l (attempt_for stream by trial) trial.end
+    → ((log : List Attempt) → IsLogged kept' log → IsLogged kept'' (log ++ option_to_list (made_at at name trial)))
+    → TriedDue rules by stream kept kept'' a b x y k l (made_at at name trial) end
+due_attempted rules by stream name kept kept' kept'' a b x y k l trial at end stays named timed ends p notes =
+    let same : attempt_for stream by trial ≡ made_at at name trial = sym (ap (λ (n : List ℕ). made_at at n trial) named ∙ ap (λ (t : ℕ). made_at t stream trial) timed) in
+    record {
+      attempted = subst (λ (o : Option Attempt). Attempted rules by stream a b x y k l o end) same
+          (subst (λ (e : Result ⊤ NodeFault). Attempted rules by stream a b x y k l (attempt_for stream by trial) e) (sym ends) p);
+      notes = λ log logged. notes log (room_notes kept kept' log stays logged);
     }
 
 -- ---- a stream
@@ -158,11 +182,11 @@ pub one_due : (rules : Rules) (by : Asker) (stream : List ℕ) (kept kept' : Kep
     → ((log : List Attempt) → IsLogged kept log → at ≡ due log stream) → time ≡ time_used by.now → at ≤ time
     → TriedDue rules by stream kept kept' a b x y k l attempt end → TriedOne rules by stream kept kept' a b x y k l attempt end
 one_due rules by stream kept kept' a b x y k l attempt end at time is now below p = record {
-  more = p.more;
-  adds = p.adds;
+  more = p.attempted.more;
+  adds = p.attempted.adds;
   notes = p.notes;
-  tries = λ log logged. subst (λ (w : Bool). TriesWhere w rules by stream a b p.more attempt end)
-      (sym (ap (λ (d : ℕ). nat_le d (time_used by.now)) (sym (is log logged)) ∙ ap (nat_le at) (sym now) ∙ where_due at time below)) p.tries;
+  tries = λ log logged. subst (λ (w : Bool). TriesWhere w rules by stream a b p.attempted.more attempt end)
+      (sym (ap (λ (d : ℕ). nat_le d (time_used by.now)) (sym (is log logged)) ∙ ap (nat_le at) (sym now) ∙ where_due at time below)) p.attempted.tries;
 }
 
 pub one_passed : (rules : Rules) (by : Asker) (stream : List ℕ) (kept : Kept) (v : SideView) (x : List Turn) (k : Option TakerTold) (u : ⊤) (at time : ℕ)

@@ -4,3 +4,4 @@ pub mod Trying
 pub mod Ticking
 pub mod OverNode
 pub mod Laws
+pub mod Owing

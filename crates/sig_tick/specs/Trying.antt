@@ -1,5 +1,5 @@
 -- How a tick tries streams: each that is due is asked what it offers, and what it offers is brought (RFC 8935, section 2).
-use Rattle.std.specs.Prelude.{◌≡◌, ◌⊎◌, ℕ, nat_le, List, [], ◌∷◌, ◌++◌, Bool, true, false, Option, Some, None, Result, Ok, Err, IsOk, ⊤}
+use Rattle.std.specs.Prelude.{◌≡◌, ◌⊎◌, ℕ, nat_le, List, [], ◌∷◌, ◌++◌, Bool, true, false, Option, Some, None, Result, Ok, Err, IsOk, ⊤, ◌==◌, if◌then◌else◌}
 use Rattle.std.specs.Option.{option_to_list}
 use Rattle.sig_courier.specs.Schedule.{IsLogged, Kept, due}
 use Rattle.sig_courier.specs.declared.attempt.Attempt.{Attempt}
@@ -17,6 +17,7 @@ use Rattle.sig_txnode.specs.Told.{TakerTold}
 use Rattle.sig_txnode.specs.declared.turn.Turn.{Turn}
 use Rattle.sig_tick.specs.Bringing.{Brings, attempt_of}
 use Rattle.sig_tick.specs.Listing.{After}
+use Rattle.sig_tick.specs.declared.attempting.Trial.{Trial}
 
 -- it ended well, or memory ran out
 abbrev pub IsOver : Result ⊤ NodeFault → Type 0
@@ -46,6 +47,34 @@ abbrev pub TriesDue : Rules → Asker → List ℕ → SideView → SideView →
 TriesDue rules by stream before after [] attempt end = IsIdle before after [] attempt × (end ≡ Err Memory)
 TriesDue rules by stream before after (hand ∷ turns) attempt end =
     IsTurnOf by (Hand (stream ∷ [])) hand × TriesHanded rules by stream hand.result before after turns attempt end
+
+-- and these turns stand in the log and are told by the taker
+pub record Attempted (rules : Rules) (by : Asker) (stream : List ℕ) (before after : SideView)
+    (turns turns' : List Turn) (told told' : Option TakerTold) (attempt : Option Attempt) (end : Result ⊤ NodeFault) : Type 0 where
+  pub more : List Turn
+  pub adds : Adds more turns turns' told told'
+  pub tries : TriesDue rules by stream before after more attempt end
+
+-- the same of its turns after the Hand turn, which was answered so
+pub record AttemptedHanded (rules : Rules) (by : Asker) (stream : List ℕ) (handed : Result Answer NodeFault) (before after : SideView)
+    (turns turns' : List Turn) (told told' : Option TakerTold) (attempt : Option Attempt) (end : Result ⊤ NodeFault) : Type 0 where
+  pub more : List Turn
+  pub adds : Adds more turns turns' told told'
+  pub tries : TriesHanded rules by stream handed before after more attempt end
+
+-- and of those in which these tokens of it were brought
+pub record AttemptedTokens (rules : Rules) (by : Asker) (stream : List ℕ) (tokens : List Token) (before after : SideView)
+    (turns turns' : List Turn) (told told' : Option TakerTold) (attempt : Option Attempt) (end : Result ⊤ NodeFault) : Type 0 where
+  pub more : List Turn
+  pub adds : Adds more turns turns' told told'
+  pub tries : TriesTokens rules by stream tokens before after more attempt end
+
+-- the attempt that was made at that time, which is none where no token was handed
+abbrev pub made_at : ℕ → List ℕ → Trial → Option Attempt
+made_at at stream trial = if trial.tokens == 0 then None else Some (record { stream = stream; at = at; tokens = trial.tokens; good = trial.good })
+
+abbrev pub attempt_for : List ℕ → Asker → Trial → Option Attempt
+attempt_for stream by trial = made_at (time_used by.now) stream trial
 
 -- whether a stream is due by the log, at the time of a tick
 abbrev pub is_due : List Attempt → Asker → List ℕ → Bool
@@ -101,24 +130,5 @@ pub record TriedOne (rules : Rules) (by : Asker) (stream : List ℕ) (kept kept'
 -- the same of one that is due, by its turns from the Hand turn on
 pub record TriedDue (rules : Rules) (by : Asker) (stream : List ℕ) (kept kept' : Kept) (before after : SideView)
     (turns turns' : List Turn) (told told' : Option TakerTold) (attempt : Option Attempt) (end : Result ⊤ NodeFault) : Type 0 where
-  pub more : List Turn
-  pub adds : Adds more turns turns' told told'
+  pub attempted : Attempted rules by stream before after turns turns' told told' attempt end
   pub notes : (log : List Attempt) → IsLogged kept log → IsLogged kept' (log ++ option_to_list attempt)
-  pub tries : TriesDue rules by stream before after more attempt end
-
--- by its turns after the Hand turn, which was answered so
-pub record TriedHanded (rules : Rules) (by : Asker) (stream : List ℕ) (handed : Result Answer NodeFault) (kept kept' : Kept) (before after : SideView)
-    (turns turns' : List Turn) (told told' : Option TakerTold) (attempt : Option Attempt) (end : Result ⊤ NodeFault) : Type 0 where
-  pub more : List Turn
-  pub adds : Adds more turns turns' told told'
-  pub notes : (log : List Attempt) → IsLogged kept log → IsLogged kept' (log ++ option_to_list attempt)
-  pub tries : TriesHanded rules by stream handed before after more attempt end
-
--- these tokens of a stream were brought, and the attempt is noted
-pub record Noted (rules : Rules) (by : Asker) (stream : List ℕ) (tokens : List Token) (kept kept' : Kept) (before after : SideView)
-    (turns turns' : List Turn) (told told' : Option TakerTold) (attempt : Attempt) (end : Result ⊤ NodeFault) : Type 0 where
-  pub more : List Turn
-  pub adds : Adds more turns turns' told told'
-  pub notes : (log : List Attempt) → IsLogged kept log → IsLogged kept' (log ++ attempt ∷ [])
-  pub is : attempt ≡ attempt_of stream by tokens more
-  pub brings : Brings rules by tokens before after more end

@@ -15,13 +15,18 @@
 //! a fault; the room for its note is made before its first dial. Left out: when a tick is made.
 #![tactic(auto)]
 
+mod attempting;
 mod bringing;
 pub mod laws;
 mod listing;
 mod over_node;
+mod owing;
 mod ticking;
 mod trying;
 
+pub use attempting::{Trial, attempt};
+pub use listing::{list, pushes_listed};
 pub use over_node::tick;
+pub use owing::owing_after;
 pub use sig_journal::NodeFault as CourierFault;
 pub use ticking::tick_over;

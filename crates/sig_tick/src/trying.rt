@@ -1,22 +1,22 @@
 //! How a tick tries streams.
 
-ghost use Rattle.std.specs.Prelude.{◌≡◌, ◌<◌, ◌∷◌, [], ◌++◌, List, Option, IfOk, true, vec_capacity, vec_len};
+ghost use Rattle.std.specs.Prelude.{◌≡◌, ◌<◌, ◌≤◌, ◌∷◌, [], ◌++◌, List, Option, IfOk, true, vec_capacity, vec_len};
 ghost use Rattle.std.specs.Option.{option_to_list};
-ghost use Rattle.sig_courier.specs.Schedule.{is_known};
+ghost use Rattle.sig_courier.specs.Schedule.{IsLogged, is_known};
 ghost use Rattle.sig_courier.specs.declared.attempt.Attempt.{Attempt};
 ghost use Rattle.sig_json.specs.Answers.{result_map};
-ghost use Rattle.sig_tick.specs.Trying.{Noted, Tried, TriedDue, TriedHanded, TriedOne};
+ghost use Rattle.sig_json.specs.declared.limits.TheConstants.{LAST_NUMBER};
+ghost use Rattle.sig_tick.specs.Trying.{Tried, TriedDue, TriedOne, made_at};
 ghost use Rattle.sig_txnode.specs.declared.turn.Turn.{Turn};
 
-use crate::bringing::{are_settled, bring};
-use crate::listing::last_ended;
+use crate::attempting::{Trial, attempt};
 use sig_courier::{Attempt, Schedule};
 use sig_journal::NodeFault;
+use sig_json::Text;
 use sig_json::limits::LAST_NUMBER;
-use sig_json::{Memory, Text};
 use sig_links::Side;
-use sig_round::{TurnLog, hand, tokens_handed};
-use sig_terms::{Rules, Token};
+use sig_round::TurnLog;
+use sig_terms::Rules;
 use sig_txnode::Taker;
 use std::alloc::Global;
 use std::sync::Wait;
@@ -82,7 +82,7 @@ fn try_one<R: Wait, K: Taker, S: Side>(
     }
 }
 
-// Asks what a stream offers, in a turn, and brings it.
+// Makes an attempt, and notes it.
 fn try_due<R: Wait, K: Taker, S: Side>(
     alloc: Global,
     rt: &R,
@@ -99,84 +99,40 @@ fn try_due<R: Wait, K: Taker, S: Side>(
     ensures link { log.new.link ≡ log.old.link }
     ensures now { log.new.now ≡ log.old.now }
 {
-    match hand(alloc, rt, taker, stream, log) {
-        Ok(()) => try_handed(alloc, rt, taker, rules, stream, schedule, side, log),
-        Err(Memory) => Err(NodeFault::Memory),
-    }
-}
-
-// Brings what the last turn handed.
-fn try_handed<R: Wait, K: Taker, S: Side>(
-    alloc: Global,
-    rt: &R,
-    taker: &mut K,
-    rules: &Rules,
-    stream: &Text,
-    schedule: &mut Schedule,
-    side: &mut S,
-    log: &mut TurnLog,
-) -> Result<Option<Attempt>, NodeFault>
-    ensures tried { (earlier : List Turn) (turn : Turn) → log.old.turns.items ≡ earlier ++ turn ∷ []
-        → (made : Option Attempt) × IfOk result (λ attempt. attempt ≡ made)
-        × TriedHanded rules.now (record { link = log.old.link; now = log.old.now }) stream.now turn.result schedule.old schedule.new (S.view side.old) (S.view side.new)
-        log.old.turns.items log.new.turns.items (K.told taker.old) (K.told taker.new) made (result_map (λ attempt. tt) result) }
-    ensures link { log.new.link ≡ log.old.link }
-    ensures now { log.new.now ≡ log.old.now }
-{
-    last_ended(log.turns.as_slice())?;
-    let tokens = tokens_handed(alloc, log.turns.as_slice())?;
-    if tokens.as_slice().is_empty() {
-        return Ok(None);
-    }
     let name = stream.copy(alloc)?;
     schedule.make_room(stream)?;
-    match bring_noted(
-        alloc,
-        rt,
-        taker,
-        rules,
-        name,
-        tokens.as_slice(),
-        schedule,
-        side,
-        log,
-    ) {
-        Ok(attempt) => Ok(Some(attempt)),
-        Err(fault) => Err(fault),
-    }
+    let trial = attempt(alloc, rt, taker, rules, stream, side, log);
+    note(schedule, name, log.now.min(LAST_NUMBER), trial)
 }
 
-// Brings these tokens of a stream, for which the side has a bound in time, and notes the attempt, for whose note there is room.
-fn bring_noted<R: Wait, K: Taker, S: Side>(
-    alloc: Global,
-    rt: &R,
-    taker: &mut K,
-    rules: &Rules,
-    stream: Text,
-    tokens: &[Token],
+// Notes an attempt of a stream, where there was one, for whose note there is room.
+fn note(
     schedule: &mut Schedule,
-    side: &mut S,
-    log: &mut TurnLog,
-) -> Result<Attempt, NodeFault>
-    requires { is_known schedule.old stream ≡ true }
-    ensures noted { (made : Attempt) × IfOk result (λ attempt. attempt ≡ made)
-        × Noted rules.now (record { link = log.old.link; now = log.old.now }) stream tokens.now schedule.old schedule.new (S.view side.old) (S.view side.new)
-        log.old.turns.items log.new.turns.items (K.told taker.old) (K.told taker.new) made (result_map (λ attempt. tt) result) }
-    ensures link { log.new.link ≡ log.old.link }
-    ensures now { log.new.now ≡ log.old.now }
+    stream: Text,
+    at: u64,
+    trial: Trial,
+) -> Result<Option<Attempt>, NodeFault>
+    requires known { is_known schedule.old stream ≡ true }
+    requires time { at ≤ LAST_NUMBER }
+    ensures made { IfOk result (λ attempt. attempt ≡ made_at at stream trial) }
+    ensures end { result_map (λ attempt. tt) result ≡ trial.end }
+    ensures notes { (log : List Attempt) → IsLogged schedule.old log → IsLogged schedule.new (log ++ option_to_list (made_at at stream trial)) }
 {
-    let before = log.turns.len();
-    side.begin_round();
-    let end = bring(alloc, rt, taker, rules, tokens, side, log);
+    if trial.tokens == 0 {
+        return match trial.end {
+            Ok(()) => Ok(None),
+            Err(fault) => Err(fault),
+        };
+    }
     let attempt = Attempt {
         stream,
-        at: log.now.min(LAST_NUMBER),
-        tokens: tokens.len() as u64,
-        good: are_settled(tokens.len(), &log.turns[before..]),
+        at,
+        tokens: trial.tokens,
+        good: trial.good,
     };
     schedule.note_known(&attempt);
-    match end {
-        Ok(()) => Ok(attempt),
+    match trial.end {
+        Ok(()) => Ok(Some(attempt)),
         Err(fault) => {
             drop(attempt);
             Err(fault)

@@ -46,30 +46,32 @@ round_hands rules by stream a b (hand ∷ settles) end is h =
     All-cons (HandsToClients rules) hand settles (subst (HandsToClients rules) (sym h.0.asked) (All-cons client stream [] is (All-nil client)))
     (settles_hand_none rules by _ h.1.results settles end h.1.settles)
 
-rounds_hand : (rules : Rules) (by : Asker) (streams : List (List ℕ)) (a b : SideView) (turns : List Turn) (starved : Bool) → AreClients rules streams
-    → AreRounds rules by streams a b turns starved → All (HandsToClients rules) turns
-rounds_hand rules by [] a b turns starved ok h = subst (All (HandsToClients rules)) (sym h.0) (All-nil (HandsToClients rules))
-rounds_hand rules by (s ∷ streams) a b turns starved ok (between, one, these, those, parts, round, next) =
+rounds_hand : (passes : List ℕ → Type 0) (rules : Rules) (by : Asker) (streams : List (List ℕ)) (a b : SideView) (turns : List Turn) (starved : Bool) → AreClients rules streams
+    → AreRounds passes rules by streams a b turns starved → All (HandsToClients rules) turns
+rounds_hand passes rules by [] a b turns starved ok h = subst (All (HandsToClients rules)) (sym h.0) (All-nil (HandsToClients rules))
+rounds_hand passes rules by (s ∷ streams) a b turns starved ok (inl passed) =
+    rounds_hand passes rules by streams a b turns starved (All-tail (λ (stream : List ℕ). has_client rules stream ≡ true) s streams ok) passed.1
+rounds_hand passes rules by (s ∷ streams) a b turns starved ok (inr (between, one, these, those, parts, round, next)) =
     let client = λ (stream : List ℕ). has_client rules stream ≡ true in
     subst (All (HandsToClients rules)) (sym parts)
     (All-append (HandsToClients rules) these those (round_hands rules by s a between these one (All-head client s streams ok) round)
-    (others (is_starved one) (rounds_hand rules by streams between b those starved (All-tail client s streams ok)) next))
+    (others (is_starved one) (rounds_hand passes rules by streams between b those starved (All-tail client s streams ok)) next))
   where
-    others : (out : Bool) → (AreRounds rules by streams between b those starved → All (HandsToClients rules) those)
-        → NextUnless out (AreRounds rules by streams between b those starved) ((those ≡ []) × (b ≡ between) × (starved ≡ true)) → All (HandsToClients rules) those
+    others : (out : Bool) → (AreRounds passes rules by streams between b those starved → All (HandsToClients rules) those)
+        → NextUnless out (AreRounds passes rules by streams between b those starved) ((those ≡ []) × (b ≡ between) × (starved ≡ true)) → All (HandsToClients rules) those
     others true rest ended = subst (All (HandsToClients rules)) (sym ended.0) (All-nil (HandsToClients rules))
     others false rest more = rest more
 
-over_clients : (rules : Rules) (by : Asker) (named : Option (List (List ℕ))) (a b : SideView) (turns : List Turn) (starved : Bool)
-    → AreRoundsOver rules by (option_map (filter (has_client rules)) named) a b turns starved → All (HandsToClients rules) turns
-over_clients rules by None a b turns starved h = subst (All (HandsToClients rules)) (sym h.0) (All-nil (HandsToClients rules))
-over_clients rules by (Some streams) a b turns starved (inl h) = rounds_hand rules by (filter (has_client rules) streams) a b turns starved (filtered rules streams) h
-over_clients rules by (Some streams) a b turns starved (inr h) = subst (All (HandsToClients rules)) (sym h.0) (All-nil (HandsToClients rules))
+over_clients : (passes : List ℕ → Type 0) (rules : Rules) (by : Asker) (named : Option (List (List ℕ))) (a b : SideView) (turns : List Turn) (starved : Bool)
+    → AreRoundsOver passes rules by (option_map (filter (has_client rules)) named) a b turns starved → All (HandsToClients rules) turns
+over_clients passes rules by None a b turns starved h = subst (All (HandsToClients rules)) (sym h.0) (All-nil (HandsToClients rules))
+over_clients passes rules by (Some streams) a b turns starved (inl h) = rounds_hand passes rules by (filter (has_client rules) streams) a b turns starved (filtered rules streams) h
+over_clients passes rules by (Some streams) a b turns starved (inr h) = subst (All (HandsToClients rules)) (sym h.0) (All-nil (HandsToClients rules))
 
-over_result : (rules : Rules) (by : Asker) (result : Result Answer NodeFault) (a b : SideView) (turns : List Turn) (starved : Bool)
-    → AreRoundsOver rules by (streams_in rules result) a b turns starved → All (HandsToClients rules) turns
-over_result rules by (Ok answer) a b turns starved h = over_clients rules by (streams_named answer) a b turns starved h
-over_result rules by (Err fault) a b turns starved h = subst (All (HandsToClients rules)) (sym h.0) (All-nil (HandsToClients rules))
+over_result : (passes : List ℕ → Type 0) (rules : Rules) (by : Asker) (result : Result Answer NodeFault) (a b : SideView) (turns : List Turn) (starved : Bool)
+    → AreRoundsOver passes rules by (streams_in rules result) a b turns starved → All (HandsToClients rules) turns
+over_result passes rules by (Ok answer) a b turns starved h = over_clients passes rules by (streams_named answer) a b turns starved h
+over_result passes rules by (Err fault) a b turns starved h = subst (All (HandsToClients rules)) (sym h.0) (All-nil (HandsToClients rules))
 
 pub rounds_are_of_clients : RoundsAreOfClients
-rounds_are_of_clients rules turn more starved before after h = over_result rules (record { link = turn.link; now = turn.now }) turn.result before after more starved h
+rounds_are_of_clients rules turn more starved before after h = over_result (λ (stream : List ℕ). Unit {0}) rules (record { link = turn.link; now = turn.now }) turn.result before after more starved h

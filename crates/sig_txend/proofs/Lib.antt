@@ -2,3 +2,4 @@ pub mod FollowLemmas
 pub mod StoreLemmas
 pub mod WatchLemmas
 pub mod ClientLemmas
+pub mod ErrandLemmas

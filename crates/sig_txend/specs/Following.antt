@@ -33,14 +33,14 @@ streams_in rules (Ok answer) = option_map (filter (has_client rules)) (streams_n
 streams_in rules (Err fault) = None
 
 -- the push rounds of these streams, if any, made these turns, did so to the side, and ended so: memory ran out, or didn't. It
--- may run out before the first
-abbrev pub AreRoundsOver : Rules → Asker → Option (List (List ℕ)) → SideView → SideView → List Turn → Bool → Type 0
-AreRoundsOver rules by None before after pushes starved = (pushes ≡ []) × (after ≡ before) × (starved ≡ false)
-AreRoundsOver rules by (Some streams) before after pushes starved =
-    AreRounds rules by streams before after pushes starved ⊎ ((pushes ≡ []) × (after ≡ before) × (starved ≡ true))
+-- may run out before the first. A stream may be passed over of which this holds
+abbrev pub AreRoundsOver : (List ℕ → Type 0) → Rules → Asker → Option (List (List ℕ)) → SideView → SideView → List Turn → Bool → Type 0
+AreRoundsOver passes rules by None before after pushes starved = (pushes ≡ []) × (after ≡ before) × (starved ≡ false)
+AreRoundsOver passes rules by (Some streams) before after pushes starved =
+    AreRounds passes rules by streams before after pushes starved ⊎ ((pushes ≡ []) × (after ≡ before) × (starved ≡ true))
 
 -- push rounds follow a turn, over the streams that its answer names and whose clients the rules have: under the number of its
 -- link, and at its time
-abbrev pub PushesAfter : Rules → Turn → List Turn → Bool → SideView → SideView → Type 0
-PushesAfter rules turn more starved before after =
-    AreRoundsOver rules (record { link = turn.link; now = turn.now }) (streams_in rules turn.result) before after more starved
+abbrev pub PushesAfter : (List ℕ → Type 0) → Rules → Turn → List Turn → Bool → SideView → SideView → Type 0
+PushesAfter passes rules turn more starved before after =
+    AreRoundsOver passes rules (record { link = turn.link; now = turn.now }) (streams_in rules turn.result) before after more starved

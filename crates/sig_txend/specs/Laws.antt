@@ -16,7 +16,7 @@ streams_handed _ = []
 abbrev pub HandsToClients : Rules → Turn → Type 0
 HandsToClients rules turn = All (λ (stream : List ℕ). has_client rules stream ≡ true) (streams_handed turn.call)
 
--- so does each turn of the push rounds that follow a turn, whatever was answered
+-- so does each turn of the push rounds that follow a turn, whatever was answered, and whichever streams are passed over
 abbrev pub RoundsAreOfClients : Type 0
 RoundsAreOfClients = (rules : Rules) (turn : Turn) (more : List Turn) (starved : Bool) (before after : SideView)
-    → PushesAfter rules turn more starved before after → All (HandsToClients rules) more
+    → PushesAfter (λ (stream : List ℕ). Unit {0}) rules turn more starved before after → All (HandsToClients rules) more

@@ -1,5 +1,5 @@
 -- What a transmitter is to its links.
-use Rattle.std.specs.Prelude.{Option}
+use Rattle.std.specs.Prelude.{Option, List, ℕ}
 use Rattle.sig_terms.specs.declared.answer.Answer.{Answer}
 use Rattle.sig_terms.specs.declared.call.Call.{Call}
 use Rattle.sig_terms.specs.declared.rules.Rules.{Rules}
@@ -13,12 +13,13 @@ use Rattle.sig_link.specs.Meaning.{Meaning}
 use Rattle.sig_txend.specs.Following.{PushesAfter}
 use Rattle.sig_txend.specs.Turning.{MakesTurn, TellsOneTime}
 
-abbrev pub transmitter : Meaning Rules Call Turn (Option TakerTold)
-transmitter = record {
+-- of whose push rounds a stream may be passed over of which this holds
+abbrev pub transmitter : (List ℕ → Type 0) → Meaning Rules Call Turn (Option TakerTold)
+transmitter passes = record {
   asked = call_of;
   Makes = MakesTurn;
   Tries = TellsOneTime;
   Grew = Grew;
   response = λ rules turn. response_in (λ (answer : Answer). reply answer rules) turn.result;
-  Follows = PushesAfter;
+  Follows = PushesAfter passes;
 }

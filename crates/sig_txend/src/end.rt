@@ -4,14 +4,15 @@ ghost use Rattle.sig_round.proofs.Grown.{grew_none, grew_on};
 ghost use Rattle.sig_txnode.specs.Told.{TakerTold};
 ghost use Rattle.sig_txend.specs.Transmitter.{transmitter};
 
-use crate::following::streams_after;
+use crate::Dispatching;
+use crate::following::{streams_after, tell_news};
 use sig_http::{HttpRefusal, Request, Response};
 use sig_json::Memory;
 use sig_link::{End, faulted};
 use sig_links::Side;
 use sig_round::{TurnLog, push_rounds, turn_of};
 use sig_terms::{Call, Rules};
-use sig_txnode::{Taker, Turn};
+use sig_txnode::Turn;
 use sig_txroutes::{call_of, response_of};
 use std::alloc::Global;
 use std::marker::PhantomData;
@@ -21,7 +22,7 @@ use std::sync::Wait;
 /// A transmitter that asks such a taker, as the links that it serves see it.
 pub struct TxEnd<K>(PhantomData<K>);
 
-impl<K: Taker> End for TxEnd<K> {
+impl<K: Dispatching> End for TxEnd<K> {
     type Taker = K;
 
     type Rules = Rules;
@@ -32,11 +33,11 @@ impl<K: Taker> End for TxEnd<K> {
 
     ghost Told = { Option TakerTold };
 
-    ghost told = { K.told };
+    ghost told = { K.Taker.told };
 
     ghost proper = { IsProperCall };
 
-    ghost meaning = { transmitter };
+    ghost meaning = { transmitter K.Passing.passes };
 
     fn call_of(alloc: Global, request: &Request, rules: &Rules) -> Result<Call, HttpRefusal> {
         call_of(alloc, request, rules)
@@ -70,6 +71,7 @@ impl<K: Taker> End for TxEnd<K> {
         turns: &mut Vec<Turn>,
     ) -> Result<(), Memory> {
         let (link, now) = (turn.link, turn.now);
+        tell_news(rt, taker, &turn);
         let streams = streams_after(alloc, rules, &turn);
         turns.push_reserved(turn);
         match streams {

@@ -4,11 +4,13 @@ ghost use Rattle.std.specs.Prelude.{◌≡◌, ◌∷◌, [], IfOk, IsSome, OnEr
 ghost use Rattle.sig_terms.specs.declared.token.Issued.{Issued};
 ghost use Rattle.sig_txend.specs.Following as spec;
 
+use crate::Dispatching;
 use sig_accounts::client_in;
 use sig_json::{Items, Memory, Text};
 use sig_terms::{Answer, Issued, Rules};
 use sig_txnode::Turn;
 use std::alloc::Global;
+use std::sync::Wait;
 
 // The streams that have push rounds after a turn, where some follow: those of clients that the rules have.
 pub fn streams_after(
@@ -22,6 +24,19 @@ pub fn streams_after(
     match &turn.result {
         Ok(answer) => streams_named(alloc, rules, answer),
         Err(_) => Ok(None),
+    }
+}
+
+/// Tells of a stream that may offer what it kept, since its status or its configuration was set by this turn; and of one of
+/// which the operator asked for a round.
+pub fn tell_news<R: Wait, K: Dispatching>(rt: &R, taker: &mut K, turn: &Turn)
+    ensures { K.Taker.told taker.new ≡ K.Taker.told taker.old }
+{
+    match &turn.result {
+        Ok(Answer::State { stream, .. }) => taker.tell(rt, stream),
+        Ok(Answer::Conf { conf }) => taker.tell(rt, &conf.stream),
+        Ok(Answer::Delivering { stream }) => taker.ask(rt, stream),
+        _ => {}
     }
 }
 
@@ -72,7 +87,7 @@ fn one_name(alloc: Global, rules: &Rules, name: &Text) -> Result<Items<Text>, Me
 }
 
 // Whether the client whose stream has this name is one of the rules'.
-fn has_client(rules: &Rules, stream: &str) -> bool
+pub fn has_client(rules: &Rules, stream: &str) -> bool
     ensures { result ≡ spec.has_client rules.now stream.now }
 {
     let client = client_in(stream);

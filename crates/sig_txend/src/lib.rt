@@ -19,7 +19,10 @@
 //! nothing that grows with what was published. Left out: how links are read and written.
 #![tactic(auto)]
 
+mod company;
+mod dispatching;
 mod end;
+mod errands;
 mod following;
 pub mod laws;
 mod locked;
@@ -28,6 +31,8 @@ mod stored;
 mod threads;
 mod transmitter;
 
+pub use company::{Company, Task};
+pub use dispatching::Dispatching;
 pub use end::TxEnd;
 pub use locked::Locked;
 pub use transmitter::Transmitter;

@@ -1,10 +1,12 @@
+use crate::errands::do_errand;
 use crate::noting::serve_link;
-use crate::{Locked, TxEnd};
+use crate::{Company, Locked, TxEnd};
 use sig_book::Naming;
-use sig_json::Memory;
+use sig_json::{Items, Memory};
 use sig_link::LinkLog;
 use sig_links::{Link, Side};
 use sig_outside::Disk;
+use sig_serving::LinkEnd;
 use sig_terms::Rules;
 use sig_txnode::{Turn, TxNode};
 use sig_watch::{Lasting, Opened, Served, Shared};
@@ -24,6 +26,8 @@ impl<D: Disk> Lasting for Transmitter<D> {
     type Node = TxNode<D>;
 
     type Log = LinkLog<Turn>;
+
+    type Company = Company;
 
     ghost follows = { Follows D.told };
 
@@ -52,6 +56,26 @@ impl<D: Disk> Served for Transmitter<D> {
 
     fn recalls(node: &TxNode<D>) {
         let _ = node.broken_at();
+    }
+
+    fn wants_errand(company: &mut Company, now: u64) -> bool {
+        company.begins_errand(now)
+    }
+
+    fn errand<O: Opened<TxNode<D>> + Naming, R: Wait, S: Side>(
+        alloc: Global,
+        rt: &R,
+        node: &Mutex<Shared<Transmitter<D>, O>>,
+        rules: &Rules,
+        number: u32,
+        side: &mut S,
+    ) -> LinkLog<Turn> {
+        let mut taker = Locked { node };
+        LinkLog {
+            link: number,
+            turns: Items::of(do_errand(alloc, rt, &mut taker, rules, number, side)),
+            end: LinkEnd::End,
+        }
     }
 
     fn serve<O: Opened<TxNode<D>> + Naming, R: Wait, L: Link, S: Side>(

@@ -1,5 +1,5 @@
 -- What a door answers.
-use Rattle.std.proofs.Common.{◌≡◌, subst, sym}
+use Rattle.std.proofs.Common.{◌≡◌, Bool, true, false, subst, sym}
 use Rattle.sig_links.specs.declared.accepted.Accepted.{Accepted}
 use Rattle.sig_links.specs.declared.accepted.Accepted.TheVariants.{Link, Shut, Waited}
 use Rattle.sig_links.specs.Told.{AcceptsNext, Begins, IfLink, IfShut, IfWaited, Lends, LinkPlan}
@@ -7,7 +7,8 @@ use Rattle.sig_links.specs.Views.{DoorView}
 use Rattle.sig_serving.specs.Line.{Line}
 use Rattle.sig_links.specs.Views.{SideView}
 use Rattle.sig_watch.specs.Accepting.{Gives}
-use Rattle.sig_watch.specs.Sights.{Sight, sight}
+use Rattle.sig_watch.specs.Happening.{Comes}
+use Rattle.sig_watch.specs.Sights.{IfErrand, Sight, sight}
 
 -- what holds of a link that was given
 pub of_link : {L S : Type 0} (answer : Accepted L S) (link : L) (side : S) (holds : L → S → Type 0) → answer ≡ Link link side → IfLink answer holds → holds link side
@@ -28,6 +29,21 @@ gives old new came line side plan is next begins whole lends others faults = sub
   place = others.1;
   faults = faults;
 })
+
+-- a link that was given came, and an errand where the door is as it was
+comes_by : (old new : DoorView) (came : Sight) (kind : Bool) → kind ≡ false → Gives old new came → IfErrand kind (new ≡ old) (Gives old new came)
+comes_by old new came true is gives = absurd (cc is)
+comes_by old new came false is gives = gives
+
+pub comes : (old new : DoorView) (came : Sight) → came.is_errand ≡ false → Gives old new came → Comes old new came
+comes old new came is gives = comes_by old new came came.is_errand is gives
+
+errand_by : (old new : DoorView) (came : Sight) (kind : Bool) → kind ≡ true → new ≡ old → IfErrand kind (new ≡ old) (Gives old new came)
+errand_by old new came true is same = same
+errand_by old new came false is same = absurd (cc is)
+
+pub errand_comes : (old new : DoorView) (came : Sight) → came.is_errand ≡ true → new ≡ old → Comes old new came
+errand_comes old new came is same = errand_by old new came came.is_errand is same
 
 -- what holds where no further link will come, and where none came in time
 pub of_shut : {L S : Type 0} (answer : Accepted L S) (holds : Type 0) → answer ≡ Shut → IfShut answer holds → holds

@@ -16,7 +16,7 @@ use Rattle.sig_watch.specs.Attending.{Attends, GoBack}
 use Rattle.sig_watch.specs.Ends.{Compares, DeskTells, Differs}
 use Rattle.sig_watch.specs.Happening.{Came, Event, Moment, Runs, Went, left_of, logs_of}
 use Rattle.sig_watch.specs.Receipts.{AreOf, AreSettled, IsUnlike, ServedBy}
-use Rattle.sig_watch.specs.Sights.{Sight}
+use Rattle.sig_watch.specs.Sights.{Sight, with_link}
 use Rattle.sig_watch.proofs.PassLemmas.{logs_more}
 use Rattle.sig_watch.proofs.WatchLemmas.{left_more}
 
@@ -45,7 +45,7 @@ module _ {G : Type 0} (serves : ℕ → G → Sight → Sight → Type 0) (numbe
       record {
         by = Went one served.0 left ∷ rest.by;
         runs = (h.0, (h.1.0, served.1, h.1.2, h.1.3), rest.runs);
-        left = ap (λ (l : List Sight). left ∷ l) rest.left;
+        left = ap (with_link left.is_errand left) rest.left;
         of = (served.2, rest.of);
       }
 
@@ -127,25 +127,25 @@ module _ {G T : Type 0} (link_of : T → ℕ) (number_of : G → ℕ) (turns_of 
 
   -- what is compared where nothing differs, and where something does
   pub compares : (desk : DeskView G T) (all : List T) (logs : List G) (receipts : List (ReceiptView G)) (links : ℕ) (told : Option Differ) → IsKept link_of number_of turns_of desk all
-      → length receipts ≡ links → AreOf number_of logs receipts → MatchOption told (AreSettled links desk receipts) (IsUnlike link_of desk receipts)
+      → length receipts ≡ links → AreOf number_of logs receipts → MatchOption told (AreSettled links desk receipts) (IsUnlike link_of links desk receipts)
       → Compares link_of number_of turns_of logs all told
   compares desk all logs receipts links None kept long of h = record {
     each = λ k d within. All-contains (λ (log : G). turns_of log ≡ of_link link_of (number_of log) all) desk.logs _ (kept.kept h.settled.same).each (has_all desk logs receipts of h.shown k d within);
     known = λ k d within. subst (λ (n : ℕ). (1 ≤ link_of (slice_index_or all k d)) × (link_of (slice_index_or all k d) ≤ n)) (sym (as_many logs receipts of ∙ long)) (few_links desk all links (kept.kept h.settled.same) h.settled k d within);
   }
-  compares desk all logs receipts links (Some (Turn link place)) kept long of (inl none) = inl none
+  compares desk all logs receipts links (Some (Turn link place)) kept long of (inl none) = inl none.nowhere
   compares desk all logs receipts links (Some (Turn link place)) kept long of (inr h) = tells h.1
     where
       desk_tells : ∥ Differed link_of number_of turns_of desk all (Turn link place) ∥₁ ⊎ IsLeft link_of desk link place → DeskTells link_of number_of turns_of logs all link place
       desk_tells differs = record { desk = desk; has = has_all desk logs receipts of h.0; differs = differs }
 
-      tells : IsUnsettled link_of desk (Turn link place) → Differs link_of number_of turns_of logs all (Turn link place)
+      tells : IsUnsettled link_of links desk (Turn link place) → Differs link_of number_of turns_of logs all (Turn link place)
       tells (inl same) = inr (desk_tells (inl (subst (λ (o : Option Differ). IfSome o (λ d. ∥ Differed link_of number_of turns_of desk all d ∥₁)) same kept.told)))
       tells (inr (inl left)) = inr (desk_tells (inr left))
-      tells (inr (inr none)) = inl none
+      tells (inr (inr none)) = inl none.0
 
 -- where the history has the logs of all receipts, what differs is what the desk tells
 pub settled : {G T : Type 0} (link_of : T → ℕ) (desk : DeskView G T) (receipts : List (ReceiptView G)) (links : ℕ) (told : Option Differ) → All (λ (r : ReceiptView G). IsShown desk r) receipts
-    → MatchOption told (IsSettled links desk) (IsUnsettled link_of desk) → MatchOption told (AreSettled links desk receipts) (IsUnlike link_of desk receipts)
+    → MatchOption told (IsSettled links desk) (IsUnsettled link_of links desk) → MatchOption told (AreSettled links desk receipts) (IsUnlike link_of links desk receipts)
 settled link_of desk receipts links None shown h = record { shown = shown; settled = h }
 settled link_of desk receipts links (Some (Turn link place)) shown h = inr (shown, h)

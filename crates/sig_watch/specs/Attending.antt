@@ -21,8 +21,8 @@ pub record GoBack (left : List Sight) (old between new : DoorView) : Type 0 wher
   pub place : new.place ≡ old.place
   pub faults : new.faults ≡ between.faults
 
--- links came until the door stopped so, numbered from 1; each was served as the host serves, and went back, before the door stopped
--- or since. Since then none came: there are as many at the end, and none is open
+-- links came, and errands were begun, until the door stopped so, numbered from 1; each was served as the host serves, and went
+-- back, before the door stopped or since. Since then none came: there are as many at the end, and none is open
 pub record Attends {G : Type 0} (serves : ℕ → G → Sight → Sight → Type 0) (stop : Stop) (logs : List G) (old new : DoorView) : Type 0 where
   pub events : List (Event G)
   pub since : List (Event G)

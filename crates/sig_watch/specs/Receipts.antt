@@ -1,6 +1,6 @@
 -- The receipts of a watch's links, beside the desk at its end.
-use Rattle.std.specs.Prelude.{◌≡◌, ◌⊎◌, ℕ, List, [], ◌∷◌, All}
-use Rattle.sig_desk.specs.Settling.{IsOf, IsSettled, IsShown, IsUnsettled}
+use Rattle.std.specs.Prelude.{◌≡◌, ◌⊎◌, ℕ, List, [], ◌∷◌, All, Contains}
+use Rattle.sig_desk.specs.Settling.{IsOf, IsSettled, IsShown, IsUnshown, IsUnsettled}
 use Rattle.sig_desk.specs.Views.{DeskView, ReceiptView}
 use Rattle.sig_logs.specs.declared.difference.Differ.{Differ}
 use Rattle.sig_logs.specs.declared.difference.Differ.TheVariants.{Turn}
@@ -22,7 +22,15 @@ pub record AreSettled {G T : Type 0} (links : ℕ) (desk : DeskView G T) (receip
   pub shown : All (λ (r : ReceiptView G). IsShown desk r) receipts
   pub settled : IsSettled links desk
 
--- what differs: at the place 0, a receipt whose log its history may not have; or what the desk tells
-abbrev pub IsUnlike : {G T : Type 0} → (T → ℕ) → DeskView G T → List (ReceiptView G) → Differ → Type 0
-IsUnlike {G} {T} link_of desk receipts (Turn link place) =
-    (place ≡ 0) ⊎ (All (λ (r : ReceiptView G). IsShown desk r) receipts × IsUnsettled link_of desk (Turn link place))
+-- the receipt of this link is one of these, and shows no log of the desk's history; it is told at the place 0
+pub record IsMissing {G T : Type 0} (desk : DeskView G T) (receipts : List (ReceiptView G)) (link place : ℕ) : Type 0 where
+  pub receipt : ReceiptView G
+  pub has : Contains receipts receipt
+  pub number : receipt.number ≡ link
+  pub unshown : IsUnshown desk receipt
+  pub nowhere : place ≡ 0
+
+-- what differs: a receipt that shows no log of the desk's history; or what the desk tells at the end of so many links
+abbrev pub IsUnlike : {G T : Type 0} → (T → ℕ) → ℕ → DeskView G T → List (ReceiptView G) → Differ → Type 0
+IsUnlike {G} {T} link_of links desk receipts (Turn link place) =
+    IsMissing desk receipts link place ⊎ (All (λ (r : ReceiptView G). IsShown desk r) receipts × IsUnsettled link_of links desk (Turn link place))

@@ -42,7 +42,7 @@ pub fn differ_of<J: Naming, G: Logged<Turn: Drop>>(
     receipts: &[Receipt<J, G>],
     links: u32,
 ) -> Option<Differ>
-    ensures { MatchOption result (AreSettled links desk.now receipts.now) (IsUnlike G.Turn.link_of desk.now receipts.now) }
+    ensures { MatchOption result (AreSettled links desk.now receipts.now) (IsUnlike G.Turn.link_of links desk.now receipts.now) }
 {
     for receipt in receipts {
         if !desk.shows(receipt) {

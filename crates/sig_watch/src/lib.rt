@@ -32,6 +32,7 @@ mod attending;
 mod course;
 mod ending;
 mod endings;
+mod guest;
 mod host;
 pub mod limits;
 mod report;
@@ -45,6 +46,7 @@ mod watching;
 
 pub use attending::{Attended, attend};
 pub use ending::{differ_of, end_of};
+pub use guest::Guest;
 pub use host::Host;
 pub use report::{Report, WatchEnd};
 pub use room::Room;

@@ -2,13 +2,16 @@
 
 ghost use Rattle.std.specs.Prelude.{◌≡◌, ◌<◌, ◌+◌, All, [], length, map, vec_len};
 ghost use Rattle.sig_watch.specs.Happening.{moment, open_link};
+ghost use Rattle.sig_serving.specs.Line.{seen};
 ghost use Rattle.sig_watch.specs.Passing.{Passes};
+ghost use Rattle.sig_watch.specs.Returning.{IsBack};
+ghost use Rattle.sig_watch.specs.Sights.{IfErrand, guest};
 
-use crate::Host;
 use crate::course::Course;
 use crate::endings::Endings;
 use crate::running::{Gone, finish};
-use crate::visit::{Comes, Visit};
+use crate::visit::Comes;
+use crate::{Guest, Host};
 use sig_json::limits::LINKS_AT_ONCE;
 use sig_links::{Door, Link, Side};
 use std::sync::Wait;
@@ -36,8 +39,22 @@ where
     let running = course.live.remove(at);
     let Gone { visit, log } = finish(rt, running);
     course.logs.push_reserved(log);
-    let Visit { link, side } = visit.into_visit();
-    door.back(link, side);
+    take_back::<L, S, A>(door, visit.into_guest());
+}
+
+/// A link goes back to its door; an errand has come from none.
+pub fn take_back<L, S, A>(door: &mut A, gone: Guest<L, S>)
+where
+    L: Link,
+    S: Side<L: Send>,
+    A: Door<L = L, S = S>,
+    ensures { IfErrand (guest (seen L.left L.written L.Source.faults L.Sink.faults) S.view gone).is_errand (A.view door.new ≡ A.view door.old)
+        (IsBack (guest (seen L.left L.written L.Source.faults L.Sink.faults) S.view gone) (A.view door.old) (A.view door.new)) }
+{
+    match gone {
+        Guest::Link { link, side } => door.back(link, side),
+        Guest::Errand { side: _ } => {}
+    }
 }
 
 /// Gives back the links that have ended, without waiting for one that has not.

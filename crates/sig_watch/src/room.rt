@@ -1,9 +1,8 @@
 ghost use Rattle.std.specs.Prelude.{◌≡◌, []};
 
-use crate::Host;
 use crate::course::Course;
 use crate::endings::Endings;
-use crate::visit::Visit;
+use crate::{Guest, Host};
 use sig_json::Memory;
 use sig_json::limits::LINKS_AT_ONCE;
 use sig_links::{Link, Side};
@@ -12,7 +11,7 @@ use std::alloc::Global;
 /// Room for the links of a watch: for as many logs as it may have, and for as many links as may be open at once.
 #[derive(Drop)]
 pub struct Room<H: Host, L: Link + Drop, S: Side + Drop> {
-    pub(crate) course: Course<H, Visit<L, S>>,
+    pub(crate) course: Course<H, Guest<L, S>>,
     pub(crate) endings: Endings,
     ghost empty: { (course.count ≡ 0) × (course.live.items ≡ []) × (course.logs.items ≡ []) },
 }

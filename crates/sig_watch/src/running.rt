@@ -26,7 +26,7 @@ pub struct Arrived<H, V> {
 }
 
 impl<H: Host, V: Visitor> Promise<Gone<V, H::Log>> for Arrived<H, V> {
-    ghost kept_by = { λ p r. H.serves p.host.value p.number r.log (V.seen_of p.came.value) (V.seen_of r.visit) };
+    ghost kept_by = { λ p r. H.serves p.host.value p.number r.log (V.seen_of p.came.value) (V.seen_of r.visit) × ((V.seen_of r.visit).is_errand ≡ (V.seen_of p.came.value).is_errand) };
 }
 
 /// A link that is served.
@@ -45,7 +45,8 @@ fn serve_owned<R: Wait, H: Host, V: Visitor>(
     number: u32,
     visit: V,
 ) -> Gone<V, H::Log>
-    ensures { H.serves host.now number result.log (V.seen_of visit) (V.seen_of result.visit) }
+    ensures serves { H.serves host.now number result.log (V.seen_of visit) (V.seen_of result.visit) }
+    ensures kind { (V.seen_of result.visit).is_errand ≡ (V.seen_of visit).is_errand }
 {
     let mut visit = visit;
     let log = visit.serve(rt, host, number);
@@ -69,6 +70,7 @@ where
     requires shared { IsSync R.row × IsSync H.row }
     ensures ok { IfOk result (λ r. (r.number ≡ number) × (r.child.promise.host.value ≡ host.now) × (r.child.promise.came.value ≡ visit)) }
     ensures err { IfErr result (λ gone. H.serves host.now number gone.log (V.seen_of visit) (V.seen_of gone.visit)) }
+    ensures kind { IfErr result (λ gone. (V.seen_of gone.visit).is_errand ≡ (V.seen_of visit).is_errand) }
 {
     let promise = Arrived {
         number,
@@ -89,7 +91,8 @@ pub fn finish<R: Threads, H: Host, V: Visitor + Drop>(
     rt: &R,
     running: Running<H, V>,
 ) -> Gone<V, H::Log>
-    ensures { H.serves running.child.promise.host.value running.number result.log (V.seen_of running.child.promise.came.value) (V.seen_of result.visit) }
+    ensures serves { H.serves running.child.promise.host.value running.number result.log (V.seen_of running.child.promise.came.value) (V.seen_of result.visit) }
+    ensures kind { (V.seen_of result.visit).is_errand ≡ (V.seen_of running.child.promise.came.value).is_errand }
 {
     let Running { number: _, child } = running;
     child.join(rt)

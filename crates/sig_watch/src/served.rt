@@ -1,6 +1,6 @@
 ghost use Rattle.std.specs.Prelude.{◌≡◌, ℕ, IfOk, [], false};
 ghost use Rattle.sig_serving.specs.Line.{seen};
-ghost use Rattle.sig_watch.specs.Sights.{Sight, sight};
+ghost use Rattle.sig_watch.specs.Sights.{Sight, errand, sight};
 
 use crate::{Lasting, Opened, Shared};
 use sig_book::Naming;
@@ -12,7 +12,8 @@ use std::sync::{Mutex, Wait};
 /// What a watch serves: how it is opened over a node, and how each of its links is served.
 ///
 /// Its meanings: `rules_of` are the rules that a node lends to links, `is_history` says what holds of every node, and `serves`
-/// says how a link comes to a log by such rules: its number, its log, and what is seen of it and of its side before and after.
+/// says how a link comes to a log by such rules: its number, its log, and what is seen of it and of its side before and after;
+/// and likewise how an errand does.
 pub trait Served: Lasting {
     type Rules: Sync + Drop;
 
@@ -35,6 +36,22 @@ pub trait Served: Lasting {
     /// What holds of every node. It does nothing.
     fn recalls(node: &Self::Node)
         ensures { is_history node.now };
+
+    /// Whether an errand is to be done at this time, in seconds since 1970, by what is known beside the node. Where it says so,
+    /// the errand is begun next.
+    fn wants_errand(company: &mut Self::Company, now: u64) -> bool;
+
+    /// Does an errand under this number, with the node under its lock as what answers its calls. It may wait for links that it
+    /// dials, and for others that ask the node.
+    fn errand<O: Opened<Self::Node> + Naming, R: Wait, S: Side>(
+        alloc: Global,
+        rt: &R,
+        node: &Mutex<Shared<Self, O>>,
+        rules: &Self::Rules,
+        number: u32,
+        side: &mut S,
+    ) -> Self::Log
+        ensures { serves rules.now number result (errand (S.view side.old)) (errand (S.view side.new)) };
 
     /// Serves a link under this number, with the node under its lock as what answers its calls. It may wait for the link, for
     /// those that it dials, and for others that ask the node.

@@ -19,6 +19,10 @@ pub trait Lasting {
 
     type Log: Logged<Turn = <Self::Node as Watched>::Turn> + Drop;
 
+    /// What is known beside the node, under its lock, and outlasts a watch: as which errands are to be done. No contract speaks
+    /// of it.
+    type Company;
+
     ghost follows: { Self.Node → Self.Node → Type 0 };
 
     /// That it follows has one proof, so that it may hold of what a lock hides.
@@ -43,6 +47,8 @@ pub struct Shared<E: Lasting, O: Opened<E::Node> + Naming> {
     pub node: E::Node,
     /// The turns of the links that are open, and the history of the logs of those that have ended.
     pub desk: Desk<O, E::Log, <E::Node as Watched>::Turn>,
+    /// What is known beside the node.
+    pub company: E::Company,
     book: Book<O, E::Log>,
     before: Snapshot<E::Node>,
     opened: PhantomData<O>,
@@ -52,11 +58,12 @@ pub struct Shared<E: Lasting, O: Opened<E::Node> + Naming> {
 }
 
 impl<E: Lasting, O: Opened<E::Node> + Naming> Shared<E, O> {
-    /// A node whose watch was just opened, what it was before, and an empty desk.
+    /// A node whose watch was just opened, what it was before, an empty desk, and what is known beside the node.
     pub fn new(
         node: E::Node,
         before: Snapshot<E::Node>,
         desk: Desk<O, E::Log, <E::Node as Watched>::Turn>,
+        company: E::Company,
         book: Book<O, E::Log>,
     ) -> Shared<E, O>
         requires same { Some before.value ≡ O.before }
@@ -66,6 +73,7 @@ impl<E: Lasting, O: Opened<E::Node> + Naming> Shared<E, O> {
         Shared {
             node,
             desk,
+            company,
             book,
             before,
             opened: PhantomData,
@@ -79,18 +87,25 @@ impl<E: Lasting, O: Opened<E::Node> + Naming> Shared<E, O> {
         self.desk.end(&self.book, log)
     }
 
-    /// The node and its desk, once no link asks it any more.
-    pub fn into_parts(self) -> (E::Node, Desk<O, E::Log, <E::Node as Watched>::Turn>)
+    /// The node, its desk and what is known beside it, once no link asks it any more.
+    pub fn into_parts(
+        self,
+    ) -> (
+        E::Node,
+        Desk<O, E::Log, <E::Node as Watched>::Turn>,
+        E::Company,
+    )
         ensures follows { IfSome O.before (λ before. E.follows before result.0) }
         ensures keeps { IsKept E.Node.Turn.link_of E.Log.number_of E.Log.turns_of result.1 (E.Node.turns_of result.0) }
     {
         let Shared {
             node,
             desk,
+            company,
             book: _,
             before: _,
             opened: _,
         } = self;
-        (node, desk)
+        (node, desk, company)
     }
 }

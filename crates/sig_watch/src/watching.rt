@@ -36,6 +36,7 @@ impl<E: Served, O: Opened<E::Node> + Naming> Locked<E, O> {
         node: E::Node,
         rules: E::Rules,
         desk: Desk<O, E::Log, <E::Node as Watched>::Turn>,
+        company: E::Company,
         book: Book<O, E::Log>,
     ) -> Locked<E, O>
         requires same { Some node ≡ O.before }
@@ -49,12 +50,18 @@ impl<E: Served, O: Opened<E::Node> + Naming> Locked<E, O> {
         Locked {
             alloc,
             rules,
-            node: Mutex::new(Shared::new(node, before, desk, book)),
+            node: Mutex::new(Shared::new(node, before, desk, company, book)),
         }
     }
 
-    // The node and its desk, once no link asks it any more.
-    fn into_parts(self) -> (E::Node, Desk<O, E::Log, <E::Node as Watched>::Turn>)
+    // The node, its desk and what is known beside it, once no link asks it any more.
+    fn into_parts(
+        self,
+    ) -> (
+        E::Node,
+        Desk<O, E::Log, <E::Node as Watched>::Turn>,
+        E::Company,
+    )
         ensures follows { IfSome O.before (λ before. E.follows before result.0) }
         ensures keeps { IsKept E.Node.Turn.link_of E.Log.number_of E.Log.turns_of result.1 (E.Node.turns_of result.0) }
     {
@@ -82,6 +89,17 @@ impl<E: Served<Log: Send>, O: Opened<E::Node> + Naming + Send> Host for Locked<E
         !(*shared).node.is_broken()
     }
 
+    fn wants_errand<R: Wait>(&self, rt: &R, now: u64) -> bool {
+        let mut shared = self.node.lock(rt);
+        E::wants_errand(&mut (*shared).company, now)
+    }
+
+    fn errand<R: Wait, S: Side>(&self, rt: &R, number: u32, side: &mut S) -> Receipt<O, E::Log> {
+        let log = E::errand(self.alloc, rt, &self.node, &self.rules, number, side);
+        let mut shared = self.node.lock(rt);
+        (*shared).end(&log)
+    }
+
     fn serve<R: Wait, L: Link, S: Side>(
         &self,
         rt: &R,
@@ -107,34 +125,43 @@ impl<E: Served<Log: Send>, O: Opened<E::Node> + Naming + Send> Host for Locked<E
 /// shut; with `DoorFault` where the door's count of faults rose; and with `Memory` before the first link is accepted, where
 /// the node is as it was.
 pub fn serve_watch<
-    E: Served<Node: Watched<Turn: Send> + Send, Log: Send> + Send,
+    E: Served<Node: Watched<Turn: Send> + Send, Log: Send, Company: Send> + Send,
     R: Threads + Wait + Sync,
     A: Door,
->(alloc: Global, rt: &R, node: E::Node, door: &mut A) -> WatchEnd<E::Node>
+>(
+    alloc: Global,
+    rt: &R,
+    node: E::Node,
+    company: E::Company,
+    door: &mut A,
+) -> (WatchEnd<E::Node>, E::Company)
     requires { E.Node.broken node ≡ false }
 
     // The node that is handed back follows the one that was handed in.
-    ensures follows { IfReport result (λ now report. E.follows node now) }
+    ensures follows { IfReport result.0 (λ now report. E.follows node now) }
 
     // It is one history since.
-    ensures history { IfReport result (λ now report. E.is_history now) }
+    ensures history { IfReport result.0 (λ now report. E.is_history now) }
 
     // The links were served side by side, and went back to the door; and how the watch ends is by why it accepts no further
     // one, by the comparison of turns and by the node.
-    ensures links { IfReport result (λ now report. WhyEnded E.Node.Turn.link_of E.Log.number_of E.Log.turns_of E.Node.turns_of E.Node.broken (E.serves (E.rules_of node)) now report result
+    ensures links { IfReport result.0 (λ now report. WhyEnded E.Node.Turn.link_of E.Log.number_of E.Log.turns_of E.Node.turns_of E.Node.broken (E.serves (E.rules_of node)) now report result.0
         (A.view door.old) (A.view door.new)) }
 
-    ensures memory { HandsBack node door.old door.new result }
+    ensures memory { HandsBack node door.old door.new result.0 }
 {
     match E::rules(alloc, &node) {
-        Ok(rules) => watch::<E, Brand, R, A>(alloc, rt, node, rules, OpenedBook::new(), door),
-        Err(Memory) => WatchEnd::Memory { node },
+        Ok(rules) => {
+            let book = OpenedBook::new();
+            watch::<E, Brand, R, A>(alloc, rt, node, rules, company, book, door)
+        }
+        Err(Memory) => (WatchEnd::Memory { node }, company),
     }
 }
 
 // Serves the links of a watch by these rules, which are lent to each.
 fn watch<
-    E: Served<Node: Watched<Turn: Send> + Send, Log: Send> + Send,
+    E: Served<Node: Watched<Turn: Send> + Send, Log: Send, Company: Send> + Send,
     O: Opened<E::Node> + Naming + Send,
     R: Threads + Wait + Sync,
     A: Door,
@@ -143,35 +170,36 @@ fn watch<
     rt: &R,
     node: E::Node,
     rules: E::Rules,
+    company: E::Company,
     book: OpenedBook<E::Log>,
     door: &mut A,
-) -> WatchEnd<E::Node>
+) -> (WatchEnd<E::Node>, E::Company)
     requires same { Some node ≡ O.before }
     requires named { book.seen.book ≡ O.book }
     requires whole { E.Node.broken node ≡ false }
-    ensures follows { IfReport result (λ now report. E.follows node now) }
-    ensures history { IfReport result (λ now report. E.is_history now) }
-    ensures links { IfReport result (λ now report. WhyEnded E.Node.Turn.link_of E.Log.number_of E.Log.turns_of E.Node.turns_of E.Node.broken (E.serves rules) now report result
+    ensures follows { IfReport result.0 (λ now report. E.follows node now) }
+    ensures history { IfReport result.0 (λ now report. E.is_history now) }
+    ensures links { IfReport result.0 (λ now report. WhyEnded E.Node.Turn.link_of E.Log.number_of E.Log.turns_of E.Node.turns_of E.Node.broken (E.serves rules) now report result.0
         (A.view door.old) (A.view door.new)) }
-    ensures memory { HandsBack node door.old door.new result }
+    ensures memory { HandsBack node door.old door.new result.0 }
 {
     let Ok(room) = Room::<Locked<E, O>, A::L, A::S>::new(alloc) else {
-        return WatchEnd::Memory { node };
+        return (WatchEnd::Memory { node }, company);
     };
     let (book, front) = book.named::<O>();
     let Ok(desk) = Desk::new(alloc, front, LINKS_PER_WATCH as u32) else {
-        return WatchEnd::Memory { node };
+        return (WatchEnd::Memory { node }, company);
     };
-    let host = Locked::<E, O>::new(alloc, node, rules, desk, book);
+    let host = Locked::<E, O>::new(alloc, node, rules, desk, company, book);
     let attended = attend_at(rt, &host, door, room);
-    let (node, desk) = host.into_parts();
+    let (node, desk, company) = host.into_parts();
     E::recalls(&node);
-    ended(node, &desk, attended)
+    (ended(node, &desk, attended), company)
 }
 
 // Serves the links that a door gives.
 fn attend_at<
-    E: Served<Node: Watched<Turn: Send> + Send, Log: Send> + Send,
+    E: Served<Node: Watched<Turn: Send> + Send, Log: Send, Company: Send> + Send,
     O: Opened<E::Node> + Naming + Send,
     R: Threads + Wait + Sync,
     A: Door,

@@ -1,30 +1,64 @@
-//! A door that gives a few held links.
+//! A door that gives a few held links, after some accepts that give none.
 
-use crate::held_link::{Board, HeldLink, Plan};
-use crate::still_side::StillSide;
-use sig_json::Bytes;
+ghost use Rattle.std.specs.Prelude.{◌≡◌, []};
+
+use crate::board::Board;
+use crate::held_link::{HeldLink, Plan};
+use crate::held_side::HeldSide;
+use sig_json::{Bytes, Items, Memory};
 use sig_links::{Accepted, Door, FaultCount};
+use sig_memory_links::{MemLink, MemSide};
 use sig_outside::Failed;
 use std::alloc::Global;
+use std::rt::Clock;
 
-/// A door that gives links by these plans, the last one first, and keeps what was written to them.
+// The response of a receiver that takes a token (RFC 8935, section 2.2).
+const ACCEPTED: &[u8] = b"HTTP/1.1 202 Accepted\r\ncontent-length: 0\r\n\r\n";
+
+/// An accept that gives no link.
+#[derive(Clone, Copy)]
+pub struct Pause {
+    /// How many dials, with what they were for, are over before it ends.
+    pub after: u64,
+    /// How many seconds pass in it.
+    pub seconds: u64,
+}
+
+/// A door that has these pauses, and then gives links by these plans, the last ones first, and keeps what was written to the
+/// links. Their sides reach nobody, and its own ones nobody or a receiver that takes one token.
 #[derive(Drop)]
-pub struct HeldDoor<'a> {
+pub struct HeldDoor<'a, C> {
     alloc: Global,
-    board: &'a Board,
+    board: &'a Board<C>,
+    pauses: Vec<Pause>,
     /// What it has not given yet.
     pub plans: Vec<Plan>,
+    // How many dials reach nobody before its own sides reach the receiver.
+    lost: u64,
     written: Vec<Bytes>,
     faults: FaultCount,
 }
 
-impl<'a> HeldDoor<'a> {
-    /// A door of these plans.
-    pub fn new(alloc: Global, board: &'a Board, plans: Vec<Plan>) -> HeldDoor<'a> {
+impl<'a, C: Clock> HeldDoor<'a, C> {
+    /// A door of these plans, whose own sides reach nobody.
+    pub fn new(alloc: Global, board: &'a Board<C>, plans: Vec<Plan>) -> HeldDoor<'a, C> {
+        HeldDoor::of_pauses(alloc, board, Vec::new(alloc), u64::MAX, plans)
+    }
+
+    /// A door of these pauses and plans, whose own sides reach the receiver after so many dials.
+    pub fn of_pauses(
+        alloc: Global,
+        board: &'a Board<C>,
+        pauses: Vec<Pause>,
+        lost: u64,
+        plans: Vec<Plan>,
+    ) -> HeldDoor<'a, C> {
         HeldDoor {
             alloc,
             board,
+            pauses,
             plans,
+            lost,
             written: Vec::new(alloc),
             faults: FaultCount::new(),
         }
@@ -35,18 +69,44 @@ impl<'a> HeldDoor<'a> {
         let HeldDoor {
             alloc: _,
             board: _,
+            pauses: _,
             plans: _,
+            lost: _,
             written,
             faults: _,
         } = self;
         written
     }
+
+    // The links that its own sides dial.
+    fn links(&self) -> Result<Vec<MemLink>, Memory> {
+        let mut links = Vec::new(self.alloc);
+        if self.board.dials() >= self.lost {
+            let bytes = Bytes::of(self.alloc, ACCEPTED)?;
+            let none = Items::of(Vec::new(self.alloc));
+            links.push(MemLink::new(self.alloc, bytes, none))?;
+        }
+        Ok(links)
+    }
 }
 
-impl<'a> Door for HeldDoor<'a> {
-    type L = HeldLink<'a>;
+// A side that dials these links.
+fn side_of<'a, C: Clock>(
+    alloc: Global,
+    board: &'a Board<C>,
+    links: Vec<MemLink>,
+) -> HeldSide<'a, C, MemSide>
+    ensures { (result.side.lent.back ≡ []) × (result.side.faults ≡ 0) }
+{
+    let times = Items::of(Vec::new(alloc));
+    let failing = Items::of(Vec::new(alloc));
+    HeldSide::new(board, MemSide::new(alloc, Items::of(links), times, failing))
+}
 
-    type S = StillSide<'a>;
+impl<'a, C: Clock + Sync> Door for HeldDoor<'a, C> {
+    type L = HeldLink<'a, C>;
+
+    type S = HeldSide<'a, C, MemSide>;
 
     ghost use Rattle.std.specs.Prelude.{None, [], false};
 
@@ -54,25 +114,35 @@ impl<'a> Door for HeldDoor<'a> {
 
     ghost plan = { λ l. record { bytes = []; fails = false } };
 
-    fn accept(&mut self) -> Result<Accepted<HeldLink<'a>, StillSide<'a>>, Failed> {
+    fn accept(&mut self) -> Result<Accepted<HeldLink<'a, C>, HeldSide<'a, C, MemSide>>, Failed> {
+        if let Some(pause) = self.pauses.pop() {
+            if !self.board.waits_for_trials(pause.after) {
+                return Err(self.faults.raise());
+            }
+            self.board.pass(pause.seconds);
+            return Ok(Accepted::Waited);
+        }
         match self.plans.pop() {
             Some(plan) => {
                 let _ = self.board.waits_for_ends(plan.after);
                 Ok(Accepted::Link {
                     link: HeldLink::new(self.alloc, self.board, plan),
-                    side: StillSide::new(),
+                    side: side_of(self.alloc, self.board, Vec::new(self.alloc)),
                 })
             }
             None => Ok(Accepted::Shut),
         }
     }
 
-    fn back(&mut self, link: HeldLink<'a>, _side: StillSide<'a>) {
+    fn back(&mut self, link: HeldLink<'a, C>, _side: HeldSide<'a, C, MemSide>) {
         let _ = self.written.push(link.into_written());
     }
 
-    fn own_side(&mut self) -> StillSide<'a> {
-        StillSide::new()
+    fn own_side(&mut self) -> HeldSide<'a, C, MemSide> {
+        match self.links() {
+            Ok(links) => side_of(self.alloc, self.board, links),
+            Err(Memory) => side_of(self.alloc, self.board, Vec::new(self.alloc)),
+        }
     }
 
     fn hurry(&mut self) {}

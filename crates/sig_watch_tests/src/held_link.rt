@@ -1,16 +1,13 @@
 //! A link whose request comes in two parts, the second once other links have come so far.
 
-ghost use Rattle.std.specs.Prelude.{◌≡◌, ◌+◌, ◌-◌, ◌^◌, min};
+ghost use Rattle.std.specs.Prelude.{◌≡◌};
 
+use crate::board::Board;
 use sig_json::Bytes;
 use sig_links::{FaultCount, Link};
 use sig_outside::{Failed, Sink, Source};
 use std::alloc::Global;
-use std::sync::atomic::{AtomicU64, Ordering};
-use std::thread::yield_now;
-
-/// How often one that waits yields before it gives up.
-const TURNS: u64 = 10_000_000;
+use std::rt::Clock;
 
 /// What a link waits for before the rest of its request comes.
 #[derive(Clone, Copy)]
@@ -35,53 +32,10 @@ pub struct Plan {
     pub after: u64,
 }
 
-/// How far the links of a door have come.
-#[derive(Drop)]
-pub struct Board {
-    begun: AtomicU64,
-    answered: AtomicU64,
-    ended: AtomicU64,
-}
-
-impl Board {
-    /// None has come.
-    pub fn new() -> Board {
-        Board {
-            begun: AtomicU64::new(0),
-            answered: AtomicU64::new(0),
-            ended: AtomicU64::new(0),
-        }
-    }
-
-    /// Waits until so many links have ended, for a while, and says whether they have.
-    pub fn waits_for_ends(&self, count: u64) -> bool {
-        reaches(&self.ended, count)
-    }
-
-    fn waits_for(&self, hold: &Hold) -> bool {
-        match hold {
-            Hold::Nothing => true,
-            Hold::Begun(count) => reaches(&self.begun, *count),
-            Hold::Answered(count) => reaches(&self.answered, *count),
-        }
-    }
-}
-
-// Waits until a number is this or more, for a while, and says whether it is.
-fn reaches(number: &AtomicU64, least: u64) -> bool {
-    for _ in 0..TURNS {
-        if number.load(Ordering::SeqCst) >= least {
-            return true;
-        }
-        yield_now();
-    }
-    false
-}
-
 /// A link that others may wait for. It tells nothing of its bytes.
 #[derive(Drop)]
-pub struct HeldLink<'a> {
-    board: &'a Board,
+pub struct HeldLink<'a, C> {
+    board: &'a Board<C>,
     plan: Plan,
     given: usize,
     written: Bytes,
@@ -89,9 +43,9 @@ pub struct HeldLink<'a> {
     writes: FaultCount,
 }
 
-impl<'a> HeldLink<'a> {
+impl<'a, C: Clock> HeldLink<'a, C> {
     /// A link by this plan.
-    pub fn new(alloc: Global, board: &'a Board, plan: Plan) -> HeldLink<'a>
+    pub fn new(alloc: Global, board: &'a Board<C>, plan: Plan) -> HeldLink<'a, C>
         ensures { (result.reads ≡ 0) × (result.writes ≡ 0) }
     {
         HeldLink {
@@ -102,13 +56,6 @@ impl<'a> HeldLink<'a> {
             reads: FaultCount::new(),
             writes: FaultCount::new(),
         }
-    }
-
-    /// How many of its calls failed.
-    pub fn met(&self) -> u64
-        ensures { result ≡ min (self.now.reads + self.now.writes) (2 ^ 64 - 1) }
-    {
-        self.reads.count().saturating_add(self.writes.count())
     }
 
     /// What was written to it.
@@ -124,19 +71,28 @@ impl<'a> HeldLink<'a> {
         written
     }
 
+    // Waits for what the rest of the request waits for, and says whether that came.
+    fn waits(&self) -> bool {
+        match self.plan.hold {
+            Hold::Nothing => true,
+            Hold::Begun(count) => self.board.waits_for_begun(count),
+            Hold::Answered(count) => self.board.waits_for_answered(count),
+        }
+    }
+
     // What it gives next, or nothing where it waited in vain.
     fn next(&self) -> Option<&[u8]> {
         if self.given < self.plan.head.len() {
             return self.plan.head.get(self.given..);
         }
-        if !self.board.waits_for(&self.plan.hold) {
+        if !self.waits() {
             return None;
         }
         self.plan.body.get(self.given - self.plan.head.len()..)
     }
 }
 
-impl<'a> Source for HeldLink<'a> {
+impl<'a, C: Clock> Source for HeldLink<'a, C> {
     ghost use Rattle.std.specs.Prelude.{None, Some};
 
     ghost left = { λ l. None };
@@ -157,13 +113,13 @@ impl<'a> Source for HeldLink<'a> {
         self.given = had.saturating_add(count);
         let head = self.plan.head.len();
         if had < head && head <= self.given {
-            self.board.begun.fetch_add(1, Ordering::SeqCst);
+            self.board.begin();
         }
         Ok(count)
     }
 }
 
-impl<'a> Sink for HeldLink<'a> {
+impl<'a, C: Clock> Sink for HeldLink<'a, C> {
     ghost use Rattle.std.specs.Prelude.{None, Some};
 
     ghost written = { λ l. None };
@@ -182,7 +138,7 @@ impl<'a> Sink for HeldLink<'a> {
     }
 }
 
-impl<'a> Link for HeldLink<'a> {
+impl<'a, C: Clock> Link for HeldLink<'a, C> {
     ghost use Rattle.std.specs.Prelude.{None, refl};
 
     ghost dialled = { λ l. None };
@@ -190,9 +146,9 @@ impl<'a> Link for HeldLink<'a> {
     // Others may wait for it.
     fn finish(&mut self) {
         if self.written.as_slice().starts_with(b"HTTP/1.1 20") {
-            self.board.answered.fetch_add(1, Ordering::SeqCst);
+            self.board.answer();
         }
-        self.board.ended.fetch_add(1, Ordering::SeqCst);
+        self.board.end();
     }
 
     ghost beside_reads = { λ l. refl };

@@ -1,8 +1,9 @@
 //! A receiver answers links while another one is held: a token that is pushed meanwhile is known to a check whose body comes
 //! after that (RFC 8935, section 2).
 
+use crate::board::Board;
 use crate::held_door::HeldDoor;
-use crate::held_link::{Board, Hold, Plan};
+use crate::held_link::{Hold, Plan};
 use crate::outcome::{all_succeed, has_texts, outcome_of};
 use crate::stores::{Files, store};
 use crate::watched::watch_receiver;
@@ -14,6 +15,7 @@ use sig_txnode::LoadRefused;
 use sig_watch::WatchEnd;
 use std::alloc::Global;
 use std::ops::Range;
+use std::rt::Clock;
 use std::sync::Wait;
 use std::test::Fail;
 use std::thread::Threads;
@@ -69,17 +71,17 @@ fn check(hold: Hold) -> Plan {
 }
 
 // A push, which comes once so many links have ended.
-fn push(after: u64) -> Plan {
+fn push(hold: Hold, after: u64) -> Plan {
     Plan {
         head: PUSH_HEAD,
         body: TOKEN,
-        hold: Hold::Nothing,
+        hold,
         after,
     }
 }
 
 // What is written to the links of these plans, the last one first, by a watch that is done with all.
-fn written_to<R: Threads + Wait + Sync>(
+fn written_to<R: Threads + Wait + Clock + Sync>(
     alloc: Global,
     rt: &R,
     plans: Vec<Plan>,
@@ -90,7 +92,7 @@ fn written_to<R: Threads + Wait + Sync>(
         let _ = node.into_disks();
         return Err(Memory);
     }
-    let board = Board::new();
+    let board = Board::new(rt);
     let mut door = HeldDoor::new(alloc, &board, plans);
     let end = watch_receiver(alloc, rt, node, &mut door);
     let (node, report) = outcome_of(end);
@@ -105,7 +107,7 @@ fn written_to<R: Threads + Wait + Sync>(
 fn a_check_that_is_held_knows_what_is_pushed_meanwhile(rt: HostRuntime) -> Result<(), Fail> {
     let alloc = rt.alloc();
     let mut plans = Vec::new(alloc);
-    plans.push(push(0))?;
+    plans.push(push(Hold::Begun(2), 0))?;
     plans.push(check(Hold::Answered(1)))?;
     let written = written_to(alloc, &rt, plans)?;
     assert!(rt; written.len() == 2 && has_texts(written.as_slice(), "200 OK", r#""known":true"#));
@@ -128,7 +130,7 @@ fn a_check_that_stays_open_keeps_none_out(rt: HostRuntime) -> Result<(), Fail> {
     let alloc = rt.alloc();
     let mut plans = Vec::new(alloc);
     for _ in 0..199 {
-        plans.push(check(Hold::Nothing))?;
+        plans.push(check(Hold::Begun(2)))?;
     }
     plans.push(check(Hold::Answered(199)))?;
     let written = written_to(alloc, &rt, plans)?;
@@ -142,16 +144,16 @@ fn a_check_that_stays_open_keeps_none_out(rt: HostRuntime) -> Result<(), Fail> {
 fn a_broken_node_is_asked_for_no_further_link(rt: HostRuntime) -> Result<(), Fail> {
     let alloc = rt.alloc();
     let mut plans = Vec::new(alloc);
-    plans.push(push(1))?;
-    plans.push(push(1))?;
-    plans.push(push(0))?;
+    plans.push(push(Hold::Nothing, 1))?;
+    plans.push(push(Hold::Nothing, 1))?;
+    plans.push(push(Hold::Nothing, 0))?;
     // Loading makes fewer calls of each disk.
     let node = node(alloc, 5..200)?;
     if node.broken_at().is_some() {
         let _ = node.into_disks();
         return Err(Memory.into());
     }
-    let board = Board::new();
+    let board = Board::new(&rt);
     let mut door = HeldDoor::new(alloc, &board, plans);
     let broken = match watch_receiver(alloc, &rt, node, &mut door) {
         WatchEnd::Broken { node, report } => {

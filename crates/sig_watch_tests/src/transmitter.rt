@@ -4,17 +4,20 @@
 ghost use Rattle.std.specs.Prelude.{IfOk};
 ghost use Rattle.sig_calls.specs.Proper.{IsProperCall, IsProperRules};
 
+use crate::board::Board;
 use crate::held_door::HeldDoor;
-use crate::held_link::{Board, Hold, Plan};
+use crate::held_link::{Hold, Plan};
 use crate::outcome::{all_succeed, has_texts, outcome_of};
 use crate::stores::{Files, store};
 use crate::watched::watch_transmitter;
 use sig_json::{Bytes, Memory, Text};
 use sig_outside::MemDisk;
 use sig_terms::{Call, Rules, Want};
+use sig_txend::Company;
 use sig_txnode::{LoadRefused, TxNode};
 use sig_txsettings::{TxSettings, tx_settings};
 use std::alloc::Global;
+use std::rt::Clock;
 use std::sync::Wait;
 use std::test::Fail;
 use std::thread::Threads;
@@ -60,22 +63,12 @@ fn creation(alloc: Global) -> Result<Call, Memory>
     Ok(Call::Create { client, want })
 }
 
-// A node with an enabled poll stream.
-fn node(alloc: Global) -> Result<TxNode<MemDisk>, Memory> {
-    let creation = creation(alloc)?;
+/// A node without a stream.
+pub fn empty_node(alloc: Global) -> Result<TxNode<MemDisk>, Memory> {
     let rules = rules(alloc)?;
     let Files { a, b } = store(alloc, b'T', 0..0)?;
     match TxNode::load(alloc, a, b, rules) {
-        Ok(node) => {
-            let mut node = node;
-            match node.take(0, &creation, 1) {
-                Ok(_) => Ok(node),
-                Err(_) => {
-                    let _ = node.into_disks();
-                    Err(Memory)
-                }
-            }
-        }
+        Ok(node) => Ok(node),
         Err(
             LoadRefused {
                 fault: _,
@@ -83,6 +76,19 @@ fn node(alloc: Global) -> Result<TxNode<MemDisk>, Memory> {
                 b: _,
             },
         ) => Err(Memory),
+    }
+}
+
+// A node with an enabled poll stream.
+fn node(alloc: Global) -> Result<TxNode<MemDisk>, Memory> {
+    let creation = creation(alloc)?;
+    let mut node = empty_node(alloc)?;
+    match node.take(0, &creation, 1) {
+        Ok(_) => Ok(node),
+        Err(_) => {
+            let _ = node.into_disks();
+            Err(Memory)
+        }
     }
 }
 
@@ -95,8 +101,19 @@ fn poll(hold: Hold) -> Plan {
     }
 }
 
-// What is written to the links of these plans, the last one first, by a watch that is done with all.
-fn written_to<R: Threads + Wait + Sync>(
+/// A publication, which comes once so many links have ended.
+pub fn publish(hold: Hold, after: u64) -> Plan {
+    Plan {
+        head: PUBLISH_HEAD,
+        body: PUBLISH_BODY,
+        hold,
+        after,
+    }
+}
+
+// What is written to the links of these plans, the last one first, by a watch that is done with all, and with the one errand
+// that lists the push streams.
+fn written_to<R: Threads + Wait + Clock + Sync>(
     alloc: Global,
     rt: &R,
     plans: Vec<Plan>,
@@ -107,13 +124,15 @@ fn written_to<R: Threads + Wait + Sync>(
         let _ = node.into_disks();
         return Err(Memory);
     }
-    let board = Board::new();
+    let board = Board::new(rt);
     let mut door = HeldDoor::new(alloc, &board, plans);
-    let end = watch_transmitter(alloc, rt, node, &mut door);
+    let (end, _) = watch_transmitter(alloc, rt, node, Company::new(alloc), &mut door);
     let (node, report) = outcome_of(end);
     let _ = node.into_disks();
     match report {
-        Some(report) if report.shut && report.links as usize == count => { Ok(door.into_written()) }
+        Some(report) if report.shut && report.links as usize == count + 1 => {
+            Ok(door.into_written())
+        }
         _ => Err(Memory),
     }
 }
@@ -122,12 +141,7 @@ fn written_to<R: Threads + Wait + Sync>(
 fn a_poll_that_is_held_lists_what_is_published_meanwhile(rt: HostRuntime) -> Result<(), Fail> {
     let alloc = rt.alloc();
     let mut plans = Vec::new(alloc);
-    plans.push(Plan {
-        head: PUBLISH_HEAD,
-        body: PUBLISH_BODY,
-        hold: Hold::Nothing,
-        after: 0,
-    })?;
+    plans.push(publish(Hold::Begun(2), 0))?;
     plans.push(poll(Hold::Answered(1)))?;
     let written = written_to(alloc, &rt, plans)?;
     assert!(rt; written.len() == 2 && has_texts(written.as_slice(), TOKEN, r#""sets""#));
@@ -150,7 +164,7 @@ fn a_poll_that_stays_open_keeps_none_out(rt: HostRuntime) -> Result<(), Fail> {
     let alloc = rt.alloc();
     let mut plans = Vec::new(alloc);
     for _ in 0..199 {
-        plans.push(poll(Hold::Nothing))?;
+        plans.push(poll(Hold::Begun(2)))?;
     }
     plans.push(poll(Hold::Answered(199)))?;
     let written = written_to(alloc, &rt, plans)?;

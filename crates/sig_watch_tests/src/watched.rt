@@ -6,23 +6,24 @@ use sig_links::Door;
 use sig_outside::Disk;
 use sig_rxend::Receiver;
 use sig_rxnode::{RxNode, RxTurn};
-use sig_txend::Transmitter;
+use sig_txend::{Company, Transmitter};
 use sig_txnode::{Turn, TxNode};
 use sig_watch::{WatchEnd, serve_watch};
 use std::alloc::Global;
 use std::sync::Wait;
 use std::thread::Threads;
 
-/// One watch of a transmitter.
+/// One watch of a transmitter, with what its links and errands know together before it and after it.
 pub fn watch_transmitter<R: Threads + Wait + Sync, D: Disk + Send, A: Door>(
     alloc: Global,
     rt: &R,
     node: TxNode<D>,
+    company: Company,
     door: &mut A,
-) -> WatchEnd<TxNode<D>>
+) -> (WatchEnd<TxNode<D>>, Company)
     requires { node.store.broken_at ≡ None }
 {
-    serve_watch::<Transmitter<D>, R, A>(alloc, rt, node, door)
+    serve_watch::<Transmitter<D>, R, A>(alloc, rt, node, company, door)
 }
 
 /// One watch of a receiver.
@@ -34,5 +35,5 @@ pub fn watch_receiver<R: Threads + Wait + Sync, D: Disk + Send, A: Door>(
 ) -> WatchEnd<RxNode<D>>
     requires { node.kept.store.broken_at ≡ None }
 {
-    serve_watch::<Receiver<D>, R, A>(alloc, rt, node, door)
+    serve_watch::<Receiver<D>, R, A>(alloc, rt, node, (), door).0
 }

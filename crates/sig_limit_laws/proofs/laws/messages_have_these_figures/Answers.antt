@@ -13,4 +13,7 @@ returns c = record {
   interim = refl;
   beside_request = refl;
   beside_response = refl;
+  taken_request = refl;
+  taken_response = refl;
+  exchange = refl;
 }

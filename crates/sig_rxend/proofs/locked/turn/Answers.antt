@@ -25,7 +25,7 @@ invariant_of-shared-2 g c =
     record {
       same = c.args.shared.now.same;
       follows = follows_on (Follows told) before old new (turn_follows told before old new took.base took.answered.rules took.files) c.args.shared.now.follows;
-      keeps = kept_on _ _ _ c.reserve.new.self c.keep.new.self old.turns new.turns (option_to_list c.take_kept-result.result.turn) c.keep.ensures took.turn
+      keeps = kept_on _ _ _ c.reserve.new.self c.keep.new.self old.turns new.turns (option_to_list c.take_kept-result.result.turn) c.keep.ensures.keeps took.turn
           (kept_same _ _ _ c.args.shared.now.desk c.reserve.new.self old.turns c.reserve.ensures.keeps c.args.shared.now.keeps);
     }
 

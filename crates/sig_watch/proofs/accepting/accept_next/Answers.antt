@@ -1,7 +1,8 @@
-use Rattle.std.proofs.Common.{◌∙◌, refl, sym, None, Some}
+use Rattle.std.proofs.Common.{◌∙◌, refl, sym, ap, None, Some}
 use Rattle.sig_serving.specs.declared.stop.Stop.TheVariants.{Shut, Failed}
 use Rattle.sig_watch.specs.Happening.{open_link}
-use Rattle.sig_watch.proofs.AcceptLemmas.{gives, of_link, of_shut, of_waited, view_faulty, view_same}
+use Rattle.sig_watch.specs.Sights.{Sight}
+use Rattle.sig_watch.proofs.AcceptLemmas.{comes, gives, of_link, of_shut, of_waited, view_faulty, view_same}
 use Rattle.sig_watch.proofs.PassLemmas.{came, joined, room_left, stays, until}
 use Rattle.sig_watch.proofs.accepting.accept_next.Goals as goal
 
@@ -14,7 +15,7 @@ returns-in-Ok-Link-clause-passes g c =
     until serves _ _ None _ _ _ _ _
     (joined serves _ _ _ _ _ _
     (came serves _ (g.V.Visitor.seen_of c.of.result) _ _
-    (next, refl, refl, room_left (λ r. open_link r.number (g.V.Visitor.seen_of r.child.promise.came.value)) c.args.course.now.live.items _ c.requires.room.1))
+    (comes _ _ (g.V.Visitor.seen_of c.of.result) (ap (λ (s : Sight). s.is_errand) c.of.ensures) next, refl, refl, room_left (λ r. open_link r.number (g.V.Visitor.seen_of r.child.promise.came.value)) c.args.course.now.live.items _ c.requires.room.1))
     c.take_in.ensures.passes)
     refl
 

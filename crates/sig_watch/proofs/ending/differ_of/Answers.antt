@@ -9,7 +9,7 @@ use Rattle.sig_watch.proofs.ending.differ_of.Goals as goal
 pub loop-receipt-preserved : goal.loop-receipt-preserved
 loop-receipt-preserved g c = record {
   shown = All-more (λ r. IsShown c.args.desk.now r) c.args.receipts.now c.loop-receipt.receipt-index c.receipt-item.result c.loop-receipt-test.true c.loop-receipt.invariant.shown
-      (subst (λ r. IsShown c.args.desk.now r) c.receipt-item.is (c.shows.ensures c.if-not-shows.false));
+      (subst (λ r. IsShown c.args.desk.now r) c.receipt-item.is (c.shows.ensures.shown c.if-not-shows.false));
 }
 
 pub returns : goal.returns

@@ -1,7 +1,7 @@
 use Rattle.std.proofs.Common.{◌≡◌, map, refl, sym, subst}
 use Rattle.sig_watch.specs.Happening.{IsWithout, OpenLink, open_link}
 use Rattle.sig_watch.specs.Returning.{IsBack}
-use Rattle.sig_watch.specs.Sights.{Sight}
+use Rattle.sig_watch.specs.Sights.{IfErrand, Sight}
 use Rattle.sig_watch.proofs.PassLemmas.{went, without}
 use Rattle.sig_watch.proofs.returning.give_back.Goals as goal
 
@@ -13,11 +13,11 @@ returns-clause-passes g c =
     let x = c.remove-running.result in
     let gone = c.finish-visit.result in
     let host = subst (λ r. r.child.promise.host.value ≡ c.args.host.now) (sym c.remove-running.ensures.value) (c.requires.hosts c.args.at x c.requires.here) in
-    let served = subst (λ h. g.H.Host.serves h x.number gone.log (seen x.child.promise.came.value) (seen gone.visit)) host c.finish-visit.ensures in
+    let served = subst (λ h. g.H.Host.serves h x.number gone.log (seen x.child.promise.came.value) (seen gone.visit)) host c.finish-visit.ensures.serves in
     let one : OpenLink = open_link x.number (seen x.child.promise.came.value) in
     let taken = without (λ r. open_link r.number (seen r.child.promise.came.value)) items c.args.at x c.requires.here c.remove-running.ensures.value in
-    let back : IsBack (seen gone.visit) (g.A.Door.view c.args.door.now) (g.A.Door.view c.back.new.self) =
-    subst (λ (s : Sight). IsBack s (g.A.Door.view c.args.door.now) (g.A.Door.view c.back.new.self)) c.into_visit-link.ensures
-    (record { takes = c.back.ensures.back; coming = c.back.ensures.others.0; place = c.back.ensures.others.1; faults = c.back.ensures.faults }) in
+    let old = g.A.Door.view c.args.door.now in
+    let new = g.A.Door.view c.take_back.new.door in
+    let back = subst (λ (s : Sight). IfErrand s.is_errand (new ≡ old) (IsBack s old new)) c.into_guest.ensures c.take_back.ensures in
     went serves _ _ one gone.log (seen gone.visit) _ _ c.push_reserved.ensures.items
-    (back, served, refl, subst (λ l. IsWithout (map (λ r. open_link r.number (seen r.child.promise.came.value)) items) one (map (λ r. open_link r.number (seen r.child.promise.came.value)) l)) (sym c.remove-running.ensures.items) taken)
+    ((c.finish-visit.ensures.kind, back), served, refl, subst (λ l. IsWithout (map (λ r. open_link r.number (seen r.child.promise.came.value)) items) one (map (λ r. open_link r.number (seen r.child.promise.came.value)) l)) (sym c.remove-running.ensures.items) taken)

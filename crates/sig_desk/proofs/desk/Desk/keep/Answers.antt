@@ -8,8 +8,8 @@ use Rattle.sig_logs.specs.declared.difference.Differ.TheVariants.{Turn}
 use Rattle.sig_desk.proofs.KeepLemmas.{kept_turn, stray_turn}
 use Rattle.sig_desk.proofs.desk.Desk.keep.Goals as goal
 
-pub returns-in-Some : goal.returns-in-Some
-returns-in-Some g c =
+pub returns-in-Some-clause-keeps : goal.returns-in-Some-clause-keeps
+returns-in-Some-clause-keeps g c =
     let link_of = g.T.LinkTurn.link_of in
     let turn = c.in-Some.turn in
     let is_open = subst (IsOpen c.args.self.now.marks) c.link.ensures (c.is_open.ensures.0 c.if-is_open.true) in
@@ -18,8 +18,8 @@ returns-in-Some g c =
     (kept_turn link_of g.G.Logged.number_of g.G.Logged.turns_of c.args.self.now new turn (ap (λ v. v.logs) c.self.view_is) (ap (λ v. v.marks) c.self.view_is) (ap (λ v. v.differs) c.self.view_is)
     (c.push_reserved.ensures.items ∙ ap (λ v. v.turns ++ turn ∷ []) c.self.view_is) is_open)
 
-pub returns-in-Some-2 : goal.returns-in-Some-2
-returns-in-Some-2 g c =
+pub returns-in-Some-2-clause-keeps : goal.returns-in-Some-2-clause-keeps
+returns-in-Some-2-clause-keeps g c =
     let link_of = g.T.LinkTurn.link_of in
     let turn = c.in-Some.turn in
     subst (λ o. KeepsOn link_of g.G.Logged.number_of g.G.Logged.turns_of c.args.self.now c.tell.new.self (option_to_list o)) (sym c.in-Some.is)
