@@ -16,3 +16,9 @@ pub mod ItemLemmas
 pub mod ListingLemmas
 pub mod ClosingLemmas
 pub mod SubjectLemmas
+pub mod ReportedLemmas
+pub mod NamedLemmas
+pub mod ListsLemmas
+pub mod SeatLemmas
+pub mod ListeningLemmas
+pub mod AskingLemmas

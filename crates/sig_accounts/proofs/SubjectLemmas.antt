@@ -24,7 +24,7 @@ use Rattle.sig_accounts.proofs.ListingLemmas.{any_listed, emptied_one, none_pass
 abbrev pub key_eq : Subject → Subject → Bool
 key_eq = (subject_eq.ghosts).eq
 
-any_alike : {X : Type 0} (t u : X → Bool) → ((x : X) → t x ≡ u x) → (xs : List X) → list_any t xs ≡ list_any u xs
+pub any_alike : {X : Type 0} (t u : X → Bool) → ((x : X) → t x ≡ u x) → (xs : List X) → list_any t xs ≡ list_any u xs
 any_alike t u same [] = refl
 any_alike t u same (x ∷ xs) = ap (λ b. b || list_any t xs) (same x) ∙ ap (λ b. u x || b) (any_alike t u same xs)
 
@@ -42,7 +42,7 @@ pub found_subject : (s : Subject) (es : List (Subject × ℕ)) (order : List (Op
 found_subject s es order linked =
     found_key (key_eq s) es ∙ any_alike (key_eq s) (is_identical s) (equal_identical s) (keys_of es) ∙ any_listed (is_identical s) es order linked
 
-none_from : {X : Type 0} (o : Option X) → is_some o ≡ false → o ≡ None
+pub none_from : {X : Type 0} (o : Option X) → is_some o ≡ false → o ≡ None
 none_from None is = refl
 none_from (Some x) is = absurd (true≢false is)
 
@@ -125,7 +125,7 @@ removed_none s es order linked absent = none_passes (is_identical s) (listed_in 
 
 -- ---- copies
 
-key_equiv : IsEquivalence key_eq
+pub key_equiv : IsEquivalence key_eq
 key_equiv = decided key_eq (λ a b. (λ h. (decides_identity a b).0 (sym (equal_identical a b) ∙ h), λ e. equal_identical a b ∙ (decides_identity a b).1 e))
 
 -- one more entry is copied

@@ -1,5 +1,5 @@
 -- The marks of the streams that are told, and what is made on those.
-use Rattle.std.proofs.Common.{◌≡◌, ◌≢◌, ◌∙◌, ap, sym, subst, ℕ, zero, suc, ◌+◌, ◌<◌, ◌≤◌, List, [], ◌∷◌, ◌++◌, length, map, drop, get_or, get_or-set_other, Bool, true, false, if◌then◌else◌, refl, arith, All, append_assoc}
+use Rattle.std.proofs.Common.{◌≡◌, ◌≢◌, ◌∙◌, ap, sym, ℕ, zero, suc, ◌+◌, ◌<◌, ◌≤◌, List, [], ◌∷◌, ◌++◌, length, map, drop, get_or, get_or-set_other, Bool, true, false, if◌then◌else◌, refl, arith, All, append_assoc}
 use Rattle.std.proofs.lemmas.Bool.{false≢true}
 use Rattle.std.proofs.lemmas.List.{drop_more}
 use Rattle.std.proofs.lemmas.List.Elements.{All-get_or}
@@ -10,7 +10,7 @@ use Rattle.sig_terms.specs.declared.token.Issued.{Issued}
 use Rattle.sig_history.specs.Facts.{is_told}
 use Rattle.sig_history.specs.Streams.{Stream, is_due}
 use Rattle.sig_accounts.specs.declared.debt.Said.TheVariants as said
-use Rattle.sig_accounts.specs.Owings.{Balance, HasRoomFor, Owing, issued_by, owing_heard, owing_in, owing_told, room_in, stream_in}
+use Rattle.sig_accounts.specs.Owings.{Balance, HasRoomFor, issued_by, owing_heard, owing_in, owing_told, room_in, stream_in}
 
 -- ---- marks
 

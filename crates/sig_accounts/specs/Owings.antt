@@ -2,6 +2,7 @@
 use Rattle.std.specs.Prelude.{◌≡◌, ◌^◌, true, nat_eq, ℕ, List, [], ◌∷◌, ◌++◌, ◌+◌, ◌<◌, ◌==◌, ◌&&◌, Bool, not, Option, None, Some, bytes_eq, map, filter, slice_index_or, if◌then◌else◌, All, ⊤}
 use Rattle.sig_subject.specs.declared.plain.Plain.TheVariants as plain
 use Rattle.sig_subject.specs.declared.simple.Simple.TheVariants as simple
+use Rattle.sig_subject.specs.declared.subject.Subject.{Subject}
 use Rattle.sig_subject.specs.declared.subject.Subject.TheVariants as subject
 use Rattle.sig_event.specs.declared.event.Event.TheVariants as event
 use Rattle.sig_event.specs.declared.claims.Claims.{Claims}
@@ -46,6 +47,10 @@ subjects_in b = b.subjects
 
 abbrev pub stream_in : Owing → Stream
 stream_in o = o.stream
+
+-- the subjects that a stream lists
+abbrev pub list_of : Owing → List Subject
+list_of o = o.stream.listed
 
 -- about nobody, and nothing that is read: what stands where no publication does
 abbrev pub no_news : News

@@ -8,6 +8,7 @@ ghost use Rattle.sig_terms.specs.Fitting.{fits};
 ghost use Rattle.sig_history.specs.Facts as facts;
 ghost use Rattle.sig_history.specs.Streams as streams;
 ghost use Rattle.sig_accounts.specs.Debts.{numbered};
+ghost use Rattle.sig_accounts.specs.Listening.{hears_all};
 ghost use Rattle.sig_accounts.specs.declared.debt.Debt.{Debt};
 
 use crate::debt::{Debt, Notice, Said};
@@ -216,6 +217,23 @@ impl Account {
         ensures { result ≡ list_any (λ (d : Debt). d.number == number) self.now.owing.owed }
     {
         !self.owed.numbered(number, number).is_empty()
+    }
+
+    /// The subjects on its list.
+    pub fn listed(&self) -> &Subjects
+        ensures { result.now.listed ≡ self.now.owing.stream.listed }
+    {
+        &self.listed
+    }
+
+    /// Whether its default subjects are all.
+    pub fn hears_all(&self) -> bool
+        ensures { result ≡ hears_all self.now.owing.stream.conf.defaults }
+    {
+        match self.conf.defaults {
+            Defaults::All => true,
+            Defaults::None => false,
+        }
     }
 
     /// Whether it has this name.

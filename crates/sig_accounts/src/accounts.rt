@@ -59,14 +59,17 @@ fn place_for(accounts: &[Account], new: &Account) -> usize
     accounts.len()
 }
 
-/// Puts a stream in its place, for which there is room.
-pub fn put_account(accounts: &mut Vec<Account>, new: Account)
+/// Puts a stream in its place, for which there is room, and says which place that is.
+pub fn put_account(accounts: &mut Vec<Account>, new: Account) -> usize
     requires { vec_len accounts.old < vec_capacity accounts.old }
-    ensures { accounts.new.items ≡ put_balance new accounts.old.items }
+    ensures within { result ≤ length accounts.old.items }
+    ensures place { accounts.new.items ≡ insert accounts.old.items result new }
+    ensures items { accounts.new.items ≡ put_balance new accounts.old.items }
 {
     let place = place_for(accounts.as_slice(), &new);
     // There is room, so the insertion keeps the stream.
     let _ = accounts.insert(place, new);
+    place
 }
 
 /// The place of the first stream of a name; how many there are where none has it.

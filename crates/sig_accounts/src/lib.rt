@@ -6,9 +6,10 @@
 //! Promised: each change of a stream is that of the history; it keeps its debts in order of number, in which they are looked for
 //! by halves; a change takes no memory where its room was reserved, and reserving changes no stream; which streams a fact tells
 //! is found once (`Addressed`), and what it makes on them goes by that; streams are the same exactly where their tokens say the
-//! same. Tokens that are kept of a publication share their streams' names, `debts` takes settled ones off at the front, and
-//! `subjects` looks those on a list up in a map, which no contract says. Left out: which changes a fact makes of all streams,
-//! which `sig_ledger` says.
+//! same; the last tokens that were reported as faulty are kept in order (`Refusals`). Tokens that are kept of a publication share
+//! their streams' names, `debts` takes settled ones off at the front, and `subjects` looks those on a list up in a map, which no
+//! contract says. `Listeners` leads from a subject to the streams that list it, exactly; so news about a simple subject ask those
+//! alone that may hear of it. Left out: which changes a fact makes of all streams, which `sig_ledger` says.
 #![tactic(auto)]
 
 mod account;
@@ -20,12 +21,19 @@ mod counts;
 mod debt;
 mod debts;
 mod delivering;
+mod kept_refusal;
 mod kept_token;
+mod listeners;
+mod lists;
 mod names;
 mod overseen;
 mod places;
 mod publication;
+mod publish_id;
+mod refusals;
+mod reporting;
 mod sameness;
+mod seats;
 mod shared_name;
 mod subjects;
 mod telling;
@@ -40,10 +48,14 @@ pub use copying::{copy_accounts, copy_list};
 pub use counted::Counted;
 pub use counts::{count_one, created_by};
 pub use debt::{Debt, Notice, Said};
+pub use kept_refusal::KeptRefusal;
 pub use kept_token::{KeptToken, tokens_issued};
+pub use listeners::Listeners;
 pub use names::{client_in, jti_text, stream_name};
-pub use places::{enter_place, place_of, places_of, reserve_place};
+pub use places::Places;
 pub use publication::{Publication, publication_at};
+pub use publish_id::{Form, PublishId};
+pub use refusals::Refusals;
 pub use sameness::same_accounts;
 pub use shared_name::SharedName;
 pub use telling::{hear_all, issued_on, reserve_tokens};

@@ -1,17 +1,18 @@
-ghost use Rattle.std.specs.Prelude.{◌≡◌, IfOk, option_map};
+ghost use Rattle.std.specs.Prelude.{◌≡◌, IfOk, bytes_eq, option_map};
 ghost use Rattle.std.specs.List.{slice_get};
 ghost use Rattle.sig_history.specs.Streams as streams;
 
 use crate::kept_token::{KeptToken, tokens_issued};
+use crate::publish_id::PublishId;
 use sig_event::News;
-use sig_json::{Copied, Items, Memory, Same, Text, copy_items};
+use sig_json::{Copied, Items, Memory, Same, copy_items};
 use sig_terms::Issued;
 use std::alloc::Global;
 use std::marker::Model;
 
-/// A publication, with the tokens that it made, which hold no text each.
+/// A publication, with the tokens that it made, which hold no text each. It is kept for good.
 pub struct Publication {
-    id: Text,
+    id: PublishId,
     news: News,
     issued: Items<KeptToken>,
 }
@@ -33,17 +34,24 @@ impl Model for Publication {
 
 impl Publication {
     /// A publication of these parts.
-    pub fn of(id: Text, news: News, issued: Items<KeptToken>) -> Publication
+    pub fn of(id: PublishId, news: News, issued: Items<KeptToken>) -> Publication
         ensures { result ≡ record { id = id; news = news; issued = issued } }
     {
         Publication { id, news, issued }
     }
 
     /// Its own name.
-    pub fn id(&self) -> &Text
+    pub fn id(&self) -> &PublishId
         ensures { result.now ≡ self.now.id }
     {
         &self.id
+    }
+
+    /// Whether this is its own name. It takes no memory.
+    pub fn is_named(&self, id: &str) -> bool
+        ensures { result ≡ bytes_eq self.now.id id.now }
+    {
+        self.id.is(id)
     }
 
     /// What it says.
@@ -63,7 +71,7 @@ impl Publication {
 
 impl Copied for Publication {
     fn copied(&self, alloc: Global) -> Result<Publication, Memory> {
-        let id = self.id.copy(alloc)?;
+        let id = self.id.copied(alloc)?;
         let issued = copy_items(alloc, &self.issued)?;
         Ok(Publication {
             id,

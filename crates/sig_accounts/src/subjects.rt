@@ -1,13 +1,16 @@
 //! The subjects on a stream's list, as they are held.
 
-ghost use Rattle.std.specs.Prelude.{◌≡◌, ◌↔◌, ◌+◌, ◌<◌, ◌≤◌, ℕ, [], ◌∷◌, drop, length, take};
+ghost use Rattle.std.specs.Prelude.{◌≡◌, ◌↔◌, ◌&&◌, ◌+◌, ◌<◌, ◌≤◌, ℕ, [], ◌∷◌, drop, length, nat_eq, not, take};
 ghost use Rattle.std.specs.Prelude.{IfNone, IfOk, IfSome, IsTrue, None, OnOk, Some, option_map};
 ghost use Rattle.std.specs.List.{cons_option, list_any, slice_get, slice_set};
 ghost use Rattle.indexmap.specs.IndexMap.{index_map_len, keys, values};
+ghost use Rattle.sig_subject.specs.declared.subject.Subject.{Subject};
 ghost use Rattle.sig_subject.specs.Matching.{is_identical, is_matching};
 ghost use Rattle.sig_history.specs.Streams.{list_added, list_removed};
+ghost use Rattle.sig_accounts.specs.Listening.{is_among};
 ghost use Rattle.sig_accounts.specs.Listing.{listed_in, AreLinked};
 
+use crate::lists::{Lists, remove_seat};
 use indexmap::IndexMap;
 use sig_json::{Memory, Same};
 use sig_subject::{Subject, matches};
@@ -104,6 +107,13 @@ impl Subjects {
         )
     }
 
+    /// Takes a seat off those of each subject that is listed.
+    pub fn leave(&self, lists: &mut Lists, seat: usize)
+        ensures { (s : Subject) (n : ℕ) → is_among s n lists.new.entries ≡ (is_among s n lists.old.entries && not (list_any (is_identical s) self.now.listed && nat_eq n seat)) }
+    {
+        leave_each(&self.places, lists, seat);
+    }
+
     /// Room for one more.
     pub fn reserve(&mut self) -> Result<(), Memory>
         ensures same { self.new.listed ≡ self.old.listed }
@@ -172,6 +182,16 @@ fn copy_places(alloc: Global, places: &Places) -> Result<Places, Memory>
         let _ = copy.insert(subject, *place)?;
     }
     Ok(copy)
+}
+
+// Takes a seat off those of each of these subjects.
+fn leave_each(places: &Places, lists: &mut Lists, seat: usize)
+    ensures { (s : Subject) (n : ℕ) → is_among s n lists.new.entries ≡ (is_among s n lists.old.entries && not (list_any (is_identical s) (keys places.now) && nat_eq n seat)) }
+{
+    for index in 0..places.len() {
+        let (subject, _) = places.get_index(index).unwrap();
+        remove_seat(lists, subject, seat);
+    }
 }
 
 // Whether this subject matches one of them.

@@ -32,6 +32,8 @@ pub fn issued_on(
             issued.push(KeptToken::of(name, account.made() + 1))?;
         }
     }
+    // They are kept for good, so they keep no room for more.
+    issued.shrink_to_fit();
     Ok(Items::of(issued))
 }
 

@@ -11,7 +11,7 @@ use Rattle.sig_terms.specs.Deliveries.{is_push}
 use Rattle.sig_terms.specs.declared.answer.Answer.{Answer}
 use Rattle.sig_terms.specs.declared.answer.Answer.TheVariants as answer
 use Rattle.sig_terms.specs.declared.call.Call.{Call}
-use Rattle.sig_terms.specs.declared.call.Call.TheVariants.{Metadata, Create, ReadAll, Read, Patch, Put, Delete, GetStatus, SetStatus, Add, Remove, Verify, Poll, Publish, OperatorStatus, OperatorDelete, Streams, Figures, Deliver, Hand, Settle}
+use Rattle.sig_terms.specs.declared.call.Call.TheVariants.{Metadata, Create, ReadAll, Read, Patch, Put, Delete, GetStatus, SetStatus, Add, Remove, Verify, Poll, Publish, OperatorStatus, OperatorDelete, Streams, Refused, Figures, Deliver, Hand, Settle}
 use Rattle.sig_terms.specs.declared.fact.Fact.{Fact}
 use Rattle.sig_terms.specs.declared.fact.Fact.TheVariants as fact
 use Rattle.sig_terms.specs.declared.rules.Client.{Client}
@@ -74,6 +74,7 @@ not_found_comes rules sum (Publish id n) now missing = absurd missing
 not_found_comes rules sum (OperatorStatus stream new reason) now missing = none_found _ (stream_named stream sum.parts.streams) missing
 not_found_comes rules sum (OperatorDelete stream) now missing = none_found _ (stream_named stream sum.parts.streams) missing
 not_found_comes rules sum (Streams from) now missing = absurd missing
+not_found_comes rules sum (Refused from) now missing = absurd missing
 not_found_comes rules sum Figures now missing = absurd missing
 not_found_comes rules sum (Deliver stream) now missing =
     none_to_push sum stream (λ (s : Stream). if is_push s.conf.delivery then only (answer.Delivering stream) else only answer.NotFound)
@@ -200,6 +201,7 @@ making_told rules sum (OperatorStatus stream new reason) now f is =
     )
 making_told rules sum (OperatorDelete stream) now f is = absurd is
 making_told rules sum (Streams from) now f is = absurd is
+making_told rules sum (Refused from) now f is = absurd is
 making_told rules sum Figures now f is = absurd is
 making_told rules sum (Deliver stream) now f is = absurd is
 making_told rules sum (Hand streams) now f is = absurd is

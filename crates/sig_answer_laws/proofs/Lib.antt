@@ -4,5 +4,6 @@ pub mod StreamLemmas
 pub mod RefusalLemmas
 pub mod GivenLemmas
 pub mod StandingLemmas
+pub mod ReportedLemmas
 pub mod SaysLemmas
 pub mod ExactLemmas

@@ -12,7 +12,7 @@ use Rattle.sig_terms.specs.Reply.{Reply}
 use Rattle.sig_terms.specs.declared.answer.Answer.{Answer}
 use Rattle.sig_terms.specs.declared.answer.Answer.TheVariants as answer
 use Rattle.sig_terms.specs.declared.call.Call.{Call}
-use Rattle.sig_terms.specs.declared.call.Call.TheVariants.{Metadata, Create, ReadAll, Read, Patch, Put, Delete, GetStatus, SetStatus, Add, Remove, Verify, Poll, Publish, OperatorStatus, OperatorDelete, Streams, Figures, Deliver, Hand, Settle}
+use Rattle.sig_terms.specs.declared.call.Call.TheVariants.{Metadata, Create, ReadAll, Read, Patch, Put, Delete, GetStatus, SetStatus, Add, Remove, Verify, Poll, Publish, OperatorStatus, OperatorDelete, Streams, Refused, Figures, Deliver, Hand, Settle}
 use Rattle.sig_terms.specs.declared.configuration.StreamConf.{StreamConf}
 use Rattle.sig_terms.specs.declared.fact.Fact.{Fact}
 use Rattle.sig_terms.specs.declared.fact.Fact.TheVariants as fact
@@ -50,6 +50,7 @@ use Rattle.sig_answer_laws.specs.Laws.{IsTrueAnswer, Says}
 use Rattle.sig_answer_laws.specs.Refused.{IsLate}
 use Rattle.sig_answer_laws.proofs.GivenLemmas.{handed_says, issued_owed, sets_say, settled_says}
 use Rattle.sig_answer_laws.proofs.RefusalLemmas.{Case, IsKnown, Tells, either_says, found_says, making_says}
+use Rattle.sig_answer_laws.proofs.ReportedLemmas.{refused_say}
 use Rattle.sig_answer_laws.proofs.StandingLemmas.{each_told, standings_say}
 use Rattle.sig_answer_laws.proofs.StreamLemmas.{after_whole, confs_each, own_conf}
 use Rattle.sig_answer_laws.proofs.SubjectLemmas.{added_has, removed_hasnt}
@@ -310,6 +311,7 @@ says rules sum (OperatorDelete stream) now called whole known =
     (stream_named stream sum.parts.streams) (λ none. none)
     (λ s is k low. (let left = deleting_leaves sum stream in record { stream = stream; asked = inr refl; gone = left.0; nothing = left.1 })) known
 says rules sum (Streams from) now called whole known = λ low. standings_say sum from
+says rules sum (Refused from) now called whole known = λ low. refused_say sum from
 says rules sum Figures now called whole known = λ low. record { asked = refl; same = refl; published = refl; each = each_told sum sum.parts.streams }
 says rules sum (Deliver stream) now called whole known =
     found_says (case rules sum (Deliver stream) now) (λ (s : Stream). if is_push s.conf.delivery then only (answer.Delivering stream) else only answer.NotFound)

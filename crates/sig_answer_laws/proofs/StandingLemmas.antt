@@ -3,7 +3,7 @@ use Rattle.std.proofs.Common.{◌≡◌, ◌∙◌, ap, sym, subst, ℕ, ◌+◌
 use Rattle.std.specs.Prelude.{min, option_map}
 use Rattle.std.specs.List.{slice_get}
 use Rattle.std.proofs.lemmas.List.{drop-map, length-drop, length-take, take-append-drop, take-map}
-use Rattle.sig_terms.specs.declared.call.Call.TheVariants.{Streams}
+use Rattle.sig_terms.specs.declared.call.Call.TheVariants.{Streams, Refused}
 use Rattle.sig_terms.specs.declared.standing.Standing.{Standing}
 use Rattle.sig_history.specs.Owed.{Sum, owed_by}
 use Rattle.sig_history.specs.Streams.{Made, Stream}

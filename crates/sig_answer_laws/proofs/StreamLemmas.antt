@@ -15,7 +15,7 @@ use Rattle.sig_owing.proofs.SoundLemmas.{unchanged}
 use Rattle.sig_calls.specs.Configuring.{confs_of}
 use Rattle.sig_calls.specs.Speaking.{HasConf}
 use Rattle.sig_fact_laws.proofs.MemberLemmas.{first_there, kept_there, later_there, none_there, same_there, there_before, there_cases}
-use Rattle.sig_fact_laws.proofs.SpentLemmas.{each_named}
+use Rattle.sig_history.proofs.SpentLemmas.{each_named}
 use Rattle.sig_answer_laws.specs.Tokens.{IsOwn, after}
 
 -- ---- what is whole

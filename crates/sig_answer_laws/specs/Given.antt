@@ -1,6 +1,6 @@
 -- What the answers say that give what was asked for (OpenID Shared Signals Framework 1.0, section 8; RFC 8935, section 2; RFC
 -- 8936, section 2.4).
-use Rattle.std.specs.Prelude.{◌≡◌, ◌⊎◌, ◌↔◌, ◌+◌, ◌<◌, ◌≤◌, ℕ, List, [], ◌∷◌, ◌++◌, Bool, true, false, Option, Some, None, All, Contains, IfSome, flat_map, length, map, min, option_map, unwrap_or, ⊤}
+use Rattle.std.specs.Prelude.{◌≡◌, ◌⊎◌, ◌↔◌, ◌+◌, ◌-◌, ◌<◌, ◌≤◌, ℕ, List, [], ◌∷◌, ◌++◌, Bool, true, false, Option, Some, None, All, Contains, IfSome, flat_map, length, map, min, option_map, unwrap_or, ⊤}
 use Rattle.std.specs.List.{slice_get}
 use Rattle.sig_json.specs.declared.limits.TheConstants.{STREAMS_PER_CLIENT, TOKENS_PER_PAGE}
 use Rattle.sig_subject.specs.declared.subject.Subject.{Subject}
@@ -10,12 +10,13 @@ use Rattle.sig_event.specs.declared.news.News.{News}
 use Rattle.sig_event.specs.declared.status.Status.{Status}
 use Rattle.sig_terms.specs.Deliveries.{is_push}
 use Rattle.sig_terms.specs.declared.call.Call.{Call}
-use Rattle.sig_terms.specs.declared.call.Call.TheVariants.{Metadata, Create, ReadAll, Delete, Add, Remove, Verify, Poll, Publish, OperatorDelete, Streams, Figures, Deliver, Hand, Settle}
+use Rattle.sig_terms.specs.declared.call.Call.TheVariants.{Metadata, Create, ReadAll, Delete, Add, Remove, Verify, Poll, Publish, OperatorDelete, Streams, Refused, Figures, Deliver, Hand, Settle}
 use Rattle.sig_terms.specs.declared.call.Outcome.{Outcome}
 use Rattle.sig_terms.specs.declared.call.Outcome.TheVariants as outcome
 use Rattle.sig_terms.specs.declared.call.PollAsk.{PollAsk}
 use Rattle.sig_terms.specs.declared.configuration.StreamConf.{StreamConf}
 use Rattle.sig_terms.specs.declared.fact.Fact.{Fact}
+use Rattle.sig_terms.specs.declared.refused_token.RefusedToken.{RefusedToken}
 use Rattle.sig_terms.specs.declared.rules.Client.{Client}
 use Rattle.sig_terms.specs.declared.rules.Rules.{Rules}
 use Rattle.sig_terms.specs.declared.standing.Standing.{Standing}
@@ -31,7 +32,7 @@ use Rattle.sig_history.specs.Streams.{Made, Publication, Stream, made_in, public
 use Rattle.sig_calls.specs.Creating.{client_of}
 use Rattle.sig_calls.specs.Handing.{first_names, pushed_by}
 use Rattle.sig_calls.specs.Speaking.{HasConf, HasState}
-use Rattle.sig_calls.specs.declared.limits.TheConstants.{STREAMS_PER_PAGE}
+use Rattle.sig_calls.specs.declared.limits.TheConstants.{REFUSED_PER_PAGE, STREAMS_PER_PAGE}
 use Rattle.sig_fact_laws.specs.Due.{Has, Matches}
 use Rattle.sig_answer_laws.specs.Tokens.{IsOn, IsOwn, OwesToken, after}
 
@@ -200,6 +201,21 @@ pub record SaysStandings (sum : Sum) (call : Call) (change : Option Fact) (next 
   pub each : TellsOfEach sum listed standings
   pub within : length listed ≤ STREAMS_PER_PAGE
   pub full : 0 < length rest → length listed ≡ STREAMS_PER_PAGE
+
+-- the reported tokens that are kept, in the order in which they were reported, stand before the page, in it or after it; the page
+-- begins at the place that was asked for among all that were ever reported, or with the first one that is kept where that place is
+-- before it, and ends at the place that is told; one that isn't full is the last
+pub record SaysRefused (sum : Sum) (call : Call) (change : Option Fact) (next : ℕ) (tokens : List RefusedToken) : Type 0 where
+  pub from : ℕ
+  pub before : List RefusedToken
+  pub rest : List RefusedToken
+  pub asked : call ≡ Refused from
+  pub same : change ≡ None
+  pub all : before ++ (tokens ++ rest) ≡ sum.refused.kept
+  pub first : length before ≡ min (from - sum.refused.before) (length sum.refused.kept)
+  pub last : sum.refused.before + (length before + length tokens) ≡ next
+  pub within : length tokens ≤ REFUSED_PER_PAGE
+  pub full : 0 < length rest → length tokens ≡ REFUSED_PER_PAGE
 
 -- all streams of all clients are told of, each once and in order, and so many publications stand
 pub record SaysFigures (sum : Sum) (call : Call) (change : Option Fact) (publications : ℕ) (standings : List Standing) : Type 0 where

@@ -6,6 +6,7 @@ use Rattle.sig_terms.specs.declared.answer.Answer.TheVariants as answer
 use Rattle.sig_terms.specs.declared.call.Call.{Call}
 use Rattle.sig_terms.specs.declared.configuration.StreamConf.{StreamConf}
 use Rattle.sig_terms.specs.declared.fact.Fact.{Fact}
+use Rattle.sig_terms.specs.declared.refused_token.RefusedToken.{RefusedToken}
 use Rattle.sig_terms.specs.declared.rules.Rules.{Rules}
 use Rattle.sig_terms.specs.declared.standing.Standing.{Standing}
 use Rattle.sig_terms.specs.declared.token.Issued.{Issued}
@@ -13,7 +14,7 @@ use Rattle.sig_terms.specs.declared.token.Token.{Token}
 use Rattle.sig_history.specs.Owed.{Sum}
 use Rattle.sig_history.specs.Whole.{IsWhole}
 use Rattle.sig_calls.specs.Proper.{IsProperCall, IsProperRules}
-use Rattle.sig_answer_laws.specs.Given.{SaysAdded, SaysAsked, SaysConf, SaysConfs, SaysDelivering, SaysFigures, SaysGone, SaysHanded, SaysMade, SaysMeta, SaysPublished, SaysRemoved, SaysSets, SaysSettled, SaysStandings, SaysState}
+use Rattle.sig_answer_laws.specs.Given.{SaysAdded, SaysAsked, SaysConf, SaysConfs, SaysDelivering, SaysFigures, SaysGone, SaysHanded, SaysMade, SaysMeta, SaysPublished, SaysRefused, SaysRemoved, SaysSets, SaysSettled, SaysStandings, SaysState}
 use Rattle.sig_answer_laws.specs.Refused.{SaysConflict, SaysDisabled, SaysEarly, SaysLong, SaysNotFound, SaysTooMany}
 use Rattle.sig_answer_laws.specs.Tokens.{Replies}
 
@@ -31,6 +32,7 @@ Says rules sum call now change (answer.Asked stream number) = SaysAsked sum call
 Says rules sum call now change (answer.Sets tokens more) = SaysSets sum call change tokens more
 Says rules sum call now change (answer.Published store_id tokens) = SaysPublished sum call change store_id tokens
 Says rules sum call now change (answer.Standings next standings) = SaysStandings sum call change next standings
+Says rules sum call now change (answer.Refused next tokens) = SaysRefused sum call change next tokens
 Says rules sum call now change (answer.Figures publications standings) = SaysFigures sum call change publications standings
 Says rules sum call now change (answer.Delivering stream) = SaysDelivering sum call change stream
 Says rules sum call now change (answer.Handed tokens) = SaysHanded sum call change tokens
@@ -82,6 +84,9 @@ PublishedIsTrue = (store_id : List ℕ) (tokens : List Issued) → IsTrueAnswer 
 
 abbrev pub StandingsAreTrue : Type 0
 StandingsAreTrue = (next : ℕ) (standings : List Standing) → IsTrueAnswer (answer.Standings next standings)
+
+abbrev pub RefusedAreTrue : Type 0
+RefusedAreTrue = (next : ℕ) (tokens : List RefusedToken) → IsTrueAnswer (answer.Refused next tokens)
 
 abbrev pub FiguresAreTrue : Type 0
 FiguresAreTrue = (publications : ℕ) (standings : List Standing) → IsTrueAnswer (answer.Figures publications standings)

@@ -7,7 +7,7 @@ use Rattle.sig_event.specs.declared.status.Status.TheVariants as status
 use Rattle.sig_set.specs.Written.{payload_text_of}
 use Rattle.sig_terms.specs.Deliveries.{is_push}
 use Rattle.sig_terms.specs.declared.call.Call.{Call}
-use Rattle.sig_terms.specs.declared.call.Call.TheVariants.{Metadata, Create, ReadAll, Read, Patch, Put, Delete, GetStatus, SetStatus, Add, Remove, Verify, Poll, Publish, OperatorStatus, OperatorDelete, Streams, Figures, Deliver, Hand, Settle}
+use Rattle.sig_terms.specs.declared.call.Call.TheVariants.{Metadata, Create, ReadAll, Read, Patch, Put, Delete, GetStatus, SetStatus, Add, Remove, Verify, Poll, Publish, OperatorStatus, OperatorDelete, Streams, Refused, Figures, Deliver, Hand, Settle}
 use Rattle.sig_terms.specs.declared.fact.Fact.{Fact}
 use Rattle.sig_terms.specs.declared.fact.Fact.TheVariants as fact
 use Rattle.sig_terms.specs.declared.rules.Client.{Client}
@@ -52,6 +52,7 @@ IsMissing rules sum (Publish id news) = ⊥
 IsMissing rules sum (OperatorStatus stream status reason) = stream_named stream sum.parts.streams ≡ None
 IsMissing rules sum (OperatorDelete stream) = stream_named stream sum.parts.streams ≡ None
 IsMissing rules sum (Streams from) = ⊥
+IsMissing rules sum (Refused from) = ⊥
 IsMissing rules sum Figures = ⊥
 IsMissing rules sum (Deliver stream) = StandsNoneToPush sum stream
 IsMissing rules sum (Hand streams) = ⊥
@@ -134,6 +135,7 @@ IsFactOf sum (OperatorStatus stream new reason) now f =
     (own : Stream) × (stream_named stream sum.parts.streams ≡ Some own) × ((own.status ≡ new) → ⊥) × (f ≡ fact.StatusSet stream new reason true now)
 IsFactOf sum (OperatorDelete stream) now f = ⊥
 IsFactOf sum (Streams from) now f = ⊥
+IsFactOf sum (Refused from) now f = ⊥
 IsFactOf sum Figures now f = ⊥
 IsFactOf sum (Deliver stream) now f = ⊥
 IsFactOf sum (Hand streams) now f = ⊥

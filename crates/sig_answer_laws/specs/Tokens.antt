@@ -4,7 +4,7 @@ use Rattle.std.specs.Option.{option_to_list}
 use Rattle.sig_event.specs.declared.event.Event.{Event}
 use Rattle.sig_terms.specs.declared.answer.Answer.{Answer}
 use Rattle.sig_terms.specs.declared.call.Call.{Call}
-use Rattle.sig_terms.specs.declared.call.Call.TheVariants.{Metadata, Create, ReadAll, Read, Patch, Put, Delete, GetStatus, SetStatus, Add, Remove, Verify, Poll, Publish, OperatorStatus, OperatorDelete, Streams, Figures, Deliver, Hand, Settle}
+use Rattle.sig_terms.specs.declared.call.Call.TheVariants.{Metadata, Create, ReadAll, Read, Patch, Put, Delete, GetStatus, SetStatus, Add, Remove, Verify, Poll, Publish, OperatorStatus, OperatorDelete, Streams, Refused, Figures, Deliver, Hand, Settle}
 use Rattle.sig_terms.specs.declared.fact.Fact.{Fact}
 use Rattle.sig_terms.specs.declared.rules.Rules.{Rules}
 use Rattle.sig_history.specs.Streams.{Made, Stream}
@@ -50,6 +50,7 @@ IsOn (Publish id news) client stream = ⊥
 IsOn (OperatorStatus s status reason) client stream = ⊥
 IsOn (OperatorDelete s) client stream = ⊥
 IsOn (Streams from) client stream = ⊥
+IsOn (Refused from) client stream = ⊥
 IsOn Figures client stream = ⊥
 IsOn (Deliver s) client stream = ⊥
 IsOn (Hand streams) client stream = ⊥

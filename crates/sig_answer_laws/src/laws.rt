@@ -1,7 +1,7 @@
 //! Laws over the definitions: each function's contract is the law, and nothing calls it.
 
 ghost use Rattle.sig_answer_laws.specs.Exact.{ConflictComes, DisabledComes, EarlyComes, LongComes, NotFoundComes, TooManyComes};
-ghost use Rattle.sig_answer_laws.specs.Laws.{AddedIsTrue, AskedIsTrue, ConfIsTrue, ConflictIsTrue, ConfsIsTrue, DeliveringIsTrue, DisabledIsTrue, EarlyIsTrue, FiguresAreTrue, GoneIsTrue, HandedIsTrue, LongIsTrue, MadeIsTrue, MetaIsTrue, NotFoundIsTrue, PublishedIsTrue, RemovedIsTrue, SetsIsTrue, SettledIsTrue, StandingsAreTrue, StateIsTrue, TooManyIsTrue};
+ghost use Rattle.sig_answer_laws.specs.Laws.{AddedIsTrue, AskedIsTrue, ConfIsTrue, ConflictIsTrue, ConfsIsTrue, DeliveringIsTrue, DisabledIsTrue, EarlyIsTrue, FiguresAreTrue, GoneIsTrue, HandedIsTrue, LongIsTrue, MadeIsTrue, MetaIsTrue, NotFoundIsTrue, PublishedIsTrue, RefusedAreTrue, RemovedIsTrue, SetsIsTrue, SettledIsTrue, StandingsAreTrue, StateIsTrue, TooManyIsTrue};
 
 /// The answer that what the transmitter offers is told comes to the call that asks for it, and nothing changes (Shared Signals
 /// Framework 1.0, section 7.1).
@@ -72,6 +72,12 @@ pub fn published_is_true()
 /// how many tokens it owes and since when, and how many were made for it; the place that is answered is the one behind them.
 pub fn standings_are_true()
     ensures { StandingsAreTrue }
+{}
+
+/// A page of the tokens that were reported as faulty has those that are kept, in the order in which they were reported, from
+/// the place that was asked for; the place that is answered is the one behind them.
+pub fn refused_are_true()
+    ensures { RefusedAreTrue }
 {}
 
 /// Figures that the operator reads tell so of each stream of every client, once and in order, and how many publications stand.

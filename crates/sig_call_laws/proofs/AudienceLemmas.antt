@@ -4,7 +4,7 @@ use Rattle.std.specs.Prelude.{All}
 use Rattle.std.proofs.lemmas.List.Elements.{All-append, All-cons, All-filter, All-head, All-map, All-nil, All-tail, All-weaker}
 use Rattle.sig_event.specs.declared.news.News.{News}
 use Rattle.sig_terms.specs.declared.call.Call.{Call}
-use Rattle.sig_terms.specs.declared.call.Call.TheVariants.{Metadata, Create, ReadAll, Read, Patch, Put, Delete, GetStatus, SetStatus, Add, Remove, Verify, Poll, Publish, OperatorStatus, OperatorDelete, Streams, Figures, Deliver, Hand, Settle}
+use Rattle.sig_terms.specs.declared.call.Call.TheVariants.{Metadata, Create, ReadAll, Read, Patch, Put, Delete, GetStatus, SetStatus, Add, Remove, Verify, Poll, Publish, OperatorStatus, OperatorDelete, Streams, Refused, Figures, Deliver, Hand, Settle}
 use Rattle.sig_terms.specs.declared.fact.Fact.{Fact}
 use Rattle.sig_terms.specs.declared.rules.Client.{Client}
 use Rattle.sig_terms.specs.declared.rules.Rules.{Rules}
@@ -103,6 +103,7 @@ fact_right rules sum (Publish id news) now f proper of = subst (BringsRight rule
 fact_right rules sum (OperatorStatus stream status reason) now f proper of = none_brought rules sum f of.brings
 fact_right rules sum (OperatorDelete stream) now f proper of = none_brought rules sum f of.brings
 fact_right rules sum (Streams from) now f proper of = absurd of
+fact_right rules sum (Refused from) now f proper of = absurd of
 fact_right rules sum Figures now f proper of = absurd of
 fact_right rules sum (Deliver stream) now f proper of = absurd of
 fact_right rules sum (Hand streams) now f proper of = absurd of

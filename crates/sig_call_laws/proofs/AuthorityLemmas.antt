@@ -7,7 +7,7 @@ use Rattle.std.proofs.lemmas.Bool.{and_parts, both_ways, false_from_ne_true}
 use Rattle.std.proofs.lemmas.List.Elements.{All-append, All-cons, All-nil}
 use Rattle.sig_event.specs.declared.news.News.{News}
 use Rattle.sig_terms.specs.declared.call.Call.{Call}
-use Rattle.sig_terms.specs.declared.call.Call.TheVariants.{Metadata, Create, ReadAll, Read, Patch, Put, Delete, GetStatus, SetStatus, Add, Remove, Verify, Poll, Publish, OperatorStatus, OperatorDelete, Streams, Figures, Deliver, Hand, Settle}
+use Rattle.sig_terms.specs.declared.call.Call.TheVariants.{Metadata, Create, ReadAll, Read, Patch, Put, Delete, GetStatus, SetStatus, Add, Remove, Verify, Poll, Publish, OperatorStatus, OperatorDelete, Streams, Refused, Figures, Deliver, Hand, Settle}
 use Rattle.sig_terms.specs.declared.fact.Fact.{Fact}
 use Rattle.sig_terms.specs.declared.fact.Fact.TheVariants.{Created, Configured, StatusSet, Listed, Unlisted, Deleted, Published, Settled, Asked}
 use Rattle.sig_terms.specs.declared.rules.Client.{Client}
@@ -28,7 +28,7 @@ use Rattle.sig_calls.specs.Proper.{IsProperRules, is_proper_client}
 use Rattle.sig_calls.proofs.CreatingLemmas.{client_found, client_named, client_proper}
 use Rattle.sig_isolation.specs.Isolation.{concerns, is_call_of}
 use Rattle.sig_isolation.proofs.OthersLemmas.{tells_left}
-use Rattle.sig_fact_laws.proofs.SpentLemmas.{each_named}
+use Rattle.sig_history.proofs.SpentLemmas.{each_named}
 use Rattle.sig_call_laws.specs.Authority.{ClientsChangeTheirOwn, IsTokenOf, IsWithin}
 use Rattle.sig_call_laws.proofs.ChangeLemmas.{FactOf, IsOnOwn, fact_is}
 
@@ -168,6 +168,7 @@ own_changed rules sum client call now f proper whole called is = by call called 
     by (OperatorStatus stream status reason) same of = cc same
     by (OperatorDelete stream) same of = cc same
     by (Streams from) same of = cc same
+    by (Refused from) same of = cc same
     by Figures same of = cc same
     by (Deliver stream) same of = cc same
     by (Hand streams) same of = cc same

@@ -10,7 +10,7 @@ use Rattle.sig_terms.specs.Deliveries.{is_push}
 use Rattle.sig_terms.specs.declared.answer.Answer.{Answer}
 use Rattle.sig_terms.specs.declared.answer.Answer.TheVariants as answer
 use Rattle.sig_terms.specs.declared.call.Call.{Call}
-use Rattle.sig_terms.specs.declared.call.Call.TheVariants.{Metadata, Create, ReadAll, Read, Patch, Put, Delete, GetStatus, SetStatus, Add, Remove, Verify, Poll, Publish, OperatorStatus, OperatorDelete, Streams, Figures, Deliver, Hand, Settle}
+use Rattle.sig_terms.specs.declared.call.Call.TheVariants.{Metadata, Create, ReadAll, Read, Patch, Put, Delete, GetStatus, SetStatus, Add, Remove, Verify, Poll, Publish, OperatorStatus, OperatorDelete, Streams, Refused, Figures, Deliver, Hand, Settle}
 use Rattle.sig_terms.specs.declared.configuration.StreamConf.{StreamConf}
 use Rattle.sig_terms.specs.declared.fact.Fact.{Fact}
 use Rattle.sig_terms.specs.declared.fact.Fact.TheVariants as fact
@@ -72,6 +72,7 @@ FactOf rules sum (Publish id news) now f = fact.Published id news now ≡ f
 FactOf rules sum (OperatorStatus stream status reason) now f = IsOn sum stream f
 FactOf rules sum (OperatorDelete stream) now f = IsOn sum stream f
 FactOf rules sum (Streams from) now f = ⊥
+FactOf rules sum (Refused from) now f = ⊥
 FactOf rules sum Figures now f = ⊥
 FactOf rules sum (Deliver stream) now f = ⊥
 FactOf rules sum (Hand streams) now f = ⊥
@@ -206,6 +207,7 @@ change_is rules sum (OperatorDelete stream) now =
     found_makes (IsOn sum stream) (λ (s : Stream). with_change answer.Gone (Some (fact.Deleted stream))) (stream_named stream sum.parts.streams)
     (λ s is. record { names = refl; brings = refl; silent = refl })
 change_is rules sum (Streams from) now = tt
+change_is rules sum (Refused from) now = tt
 change_is rules sum Figures now = tt
 change_is rules sum (Deliver stream) now =
     found_makes (λ f. ⊥) (λ (s : Stream). if is_push s.conf.delivery then only (answer.Delivering stream) else only answer.NotFound)

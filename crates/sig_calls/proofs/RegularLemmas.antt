@@ -3,7 +3,7 @@ use Rattle.std.proofs.Common.{ℕ, refl}
 use Rattle.sig_terms.specs.declared.rules.Rules.{Rules}
 use Rattle.sig_terms.specs.declared.answer.Answer.TheVariants as answer
 use Rattle.sig_terms.specs.declared.call.Call.{Call}
-use Rattle.sig_terms.specs.declared.call.Call.TheVariants.{Metadata, Create, ReadAll, Read, Patch, Put, Delete, GetStatus, SetStatus, Add, Remove, Verify, Poll, Publish, OperatorStatus, OperatorDelete, Streams, Figures, Deliver, Hand, Settle}
+use Rattle.sig_terms.specs.declared.call.Call.TheVariants.{Metadata, Create, ReadAll, Read, Patch, Put, Delete, GetStatus, SetStatus, Add, Remove, Verify, Poll, Publish, OperatorStatus, OperatorDelete, Streams, Refused, Figures, Deliver, Hand, Settle}
 use Rattle.sig_history.specs.Owed.{Sum}
 use Rattle.sig_calls.specs.Proper.{IsProperRules}
 use Rattle.sig_calls.specs.Regular.{CallsAreRegular}
@@ -11,7 +11,7 @@ use Rattle.sig_calls.specs.Table.{told_of}
 use Rattle.sig_calls.proofs.ConfiguringLemmas.{deleting_lawful, patching_lawful, putting_lawful, reading_all_lawful, reading_lawful}
 use Rattle.sig_calls.proofs.CreatingLemmas.{creating_lawful}
 use Rattle.sig_calls.proofs.HandingLemmas.{delivering_lawful, handing_lawful}
-use Rattle.sig_calls.proofs.OverseeingLemmas.{dropping_lawful, figuring_lawful, listing_lawful}
+use Rattle.sig_calls.proofs.OverseeingLemmas.{dropping_lawful, figuring_lawful, listing_lawful, refusing_lawful}
 use Rattle.sig_calls.proofs.PollingLemmas.{polling_lawful}
 use Rattle.sig_calls.proofs.PublishingLemmas.{publishing_lawful}
 use Rattle.sig_calls.proofs.SettlingLemmas.{settling_lawful}
@@ -39,6 +39,7 @@ calls_lawful rules sum (Publish id news) now proper = publishing_lawful rules su
 calls_lawful rules sum (OperatorStatus stream status reason) now proper = operating_lawful rules sum stream status reason now
 calls_lawful rules sum (OperatorDelete stream) now proper = dropping_lawful rules sum stream now
 calls_lawful rules sum (Streams from) now proper = listing_lawful rules sum from now
+calls_lawful rules sum (Refused from) now proper = refusing_lawful rules sum from now
 calls_lawful rules sum Figures now proper = figuring_lawful rules sum now
 calls_lawful rules sum (Deliver stream) now proper = delivering_lawful rules sum stream now
 calls_lawful rules sum (Hand streams) now proper = handing_lawful rules sum streams now

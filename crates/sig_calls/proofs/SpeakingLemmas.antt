@@ -10,7 +10,7 @@ use Rattle.sig_event.specs.declared.status.Status.{Status}
 use Rattle.sig_terms.specs.Deliveries.{is_push}
 use Rattle.sig_terms.specs.declared.answer.Answer.{Answer}
 use Rattle.sig_terms.specs.declared.answer.Answer.TheVariants as answer
-use Rattle.sig_terms.specs.declared.call.Call.TheVariants.{Metadata, Create, ReadAll, Read, Patch, Put, Delete, GetStatus, SetStatus, Add, Remove, Verify, Poll, Publish, OperatorStatus, OperatorDelete, Streams, Figures, Deliver, Hand, Settle}
+use Rattle.sig_terms.specs.declared.call.Call.TheVariants.{Metadata, Create, ReadAll, Read, Patch, Put, Delete, GetStatus, SetStatus, Add, Remove, Verify, Poll, Publish, OperatorStatus, OperatorDelete, Streams, Refused, Figures, Deliver, Hand, Settle}
 use Rattle.sig_terms.specs.declared.configuration.StreamConf.{StreamConf}
 use Rattle.sig_terms.specs.declared.fact.Fact.{Fact}
 use Rattle.sig_terms.specs.declared.fact.Fact.TheVariants as fact
@@ -220,6 +220,7 @@ answers_true rules sum (OperatorStatus stream status reason) now proper called w
 answers_true rules sum (OperatorDelete stream) now proper called whole =
     found_true sum _ (stream_named stream sum.parts.streams) (λ s is low. tt)
 answers_true rules sum (Streams from) now proper called whole = λ low. tt
+answers_true rules sum (Refused from) now proper called whole = λ low. tt
 answers_true rules sum Figures now proper called whole = λ low. tt
 answers_true rules sum (Deliver stream) now proper called whole =
     found_true sum _ (stream_named stream sum.parts.streams) (λ s is. either_true sum (is_push s.conf.delivery) _ _ (λ push low. tt) (λ poll low. tt))

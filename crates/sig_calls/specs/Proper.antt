@@ -10,7 +10,7 @@ use Rattle.sig_terms.specs.declared.want.Delivery.{Delivery}
 use Rattle.sig_terms.specs.declared.want.Delivery.TheVariants as delivery
 use Rattle.sig_terms.specs.declared.want.Want.{Want}
 use Rattle.sig_terms.specs.declared.call.Call.{Call}
-use Rattle.sig_terms.specs.declared.call.Call.TheVariants.{Metadata, Create, ReadAll, Read, Patch, Put, Delete, GetStatus, SetStatus, Add, Remove, Verify, Poll, Publish, OperatorStatus, OperatorDelete, Streams, Figures, Deliver, Hand, Settle}
+use Rattle.sig_terms.specs.declared.call.Call.TheVariants.{Metadata, Create, ReadAll, Read, Patch, Put, Delete, GetStatus, SetStatus, Add, Remove, Verify, Poll, Publish, OperatorStatus, OperatorDelete, Streams, Refused, Figures, Deliver, Hand, Settle}
 use Rattle.sig_stream.specs.Endpoints.{endpoint_of}
 use Rattle.sig_history.specs.Sizes.{delivery_bytes, given_bytes, requested_bytes, requested_items}
 use Rattle.sig_history.specs.Sound.{is_client_name}
@@ -67,6 +67,7 @@ IsProperCall (Publish id news) = IsProperNews news
 IsProperCall (OperatorStatus stream status reason) = IfSome reason IsUtf8
 IsProperCall (OperatorDelete stream) = Unit {0}
 IsProperCall (Streams from) = Unit {0}
+IsProperCall (Refused from) = Unit {0}
 IsProperCall Figures = Unit {0}
 IsProperCall (Deliver stream) = Unit {0}
 IsProperCall (Hand streams) = Unit {0}

@@ -7,7 +7,7 @@ use Rattle.sig_json.specs.declared.limits.TheConstants.{LAST_NUMBER}
 use Rattle.sig_terms.specs.declared.answer.Answer.{Answer}
 use Rattle.sig_terms.specs.declared.answer.Answer.TheVariants as answer
 use Rattle.sig_terms.specs.declared.call.Call.{Call}
-use Rattle.sig_terms.specs.declared.call.Call.TheVariants.{Metadata, Create, ReadAll, Read, Patch, Put, Delete, GetStatus, SetStatus, Add, Remove, Verify, Poll, Publish, OperatorStatus, OperatorDelete, Streams, Figures, Deliver, Hand, Settle}
+use Rattle.sig_terms.specs.declared.call.Call.TheVariants.{Metadata, Create, ReadAll, Read, Patch, Put, Delete, GetStatus, SetStatus, Add, Remove, Verify, Poll, Publish, OperatorStatus, OperatorDelete, Streams, Refused, Figures, Deliver, Hand, Settle}
 use Rattle.sig_terms.specs.declared.call.Outcome.{Outcome}
 use Rattle.sig_terms.specs.declared.call.Outcome.TheVariants as outcome
 use Rattle.sig_terms.specs.declared.fact.Fact.{Fact}
@@ -38,6 +38,7 @@ handed_by (answer.Asked stream number) = []
 handed_by (answer.Sets tokens more) = tokens
 handed_by (answer.Published store_id tokens) = []
 handed_by (answer.Standings next standings) = []
+handed_by (answer.Refused next tokens) = []
 handed_by (answer.Figures publications standings) = []
 handed_by (answer.Delivering stream) = []
 handed_by (answer.Handed tokens) = tokens
@@ -86,6 +87,7 @@ acks (Publish id news) t = false
 acks (OperatorStatus stream status reason) t = false
 acks (OperatorDelete stream) t = false
 acks (Streams from) t = false
+acks (Refused from) t = false
 acks Figures t = false
 acks (Deliver stream) t = false
 acks (Hand streams) t = false

@@ -38,6 +38,7 @@ IsTrueOf sum (answer.Asked stream number) = Unit {0}
 IsTrueOf sum (answer.Sets tokens more) = Unit {0}
 IsTrueOf sum (answer.Published store_id tokens) = Unit {0}
 IsTrueOf sum (answer.Standings next standings) = Unit {0}
+IsTrueOf sum (answer.Refused next tokens) = Unit {0}
 IsTrueOf sum (answer.Figures publications standings) = Unit {0}
 IsTrueOf sum (answer.Delivering stream) = Unit {0}
 IsTrueOf sum (answer.Handed tokens) = Unit {0}

@@ -3,7 +3,7 @@
 use Rattle.std.specs.Prelude.{ℕ, Bool, Option, Result}
 use Rattle.sig_terms.specs.declared.rules.Rules.{Rules}
 use Rattle.sig_terms.specs.declared.call.Call.{Call}
-use Rattle.sig_terms.specs.declared.call.Call.TheVariants.{Metadata, Create, ReadAll, Read, Patch, Put, Delete, GetStatus, SetStatus, Add, Remove, Verify, Poll, Publish, OperatorStatus, OperatorDelete, Streams, Figures, Deliver, Hand, Settle}
+use Rattle.sig_terms.specs.declared.call.Call.TheVariants.{Metadata, Create, ReadAll, Read, Patch, Put, Delete, GetStatus, SetStatus, Add, Remove, Verify, Poll, Publish, OperatorStatus, OperatorDelete, Streams, Refused, Figures, Deliver, Hand, Settle}
 use Rattle.sig_terms.specs.declared.answer.Answer.{Answer}
 use Rattle.sig_terms.specs.declared.answer.Answer.TheVariants as answer
 use Rattle.sig_terms.specs.declared.fact.Fact.{Fact}
@@ -17,7 +17,7 @@ use Rattle.sig_calls.specs.Statuses.{operating, reading_status, setting_status}
 use Rattle.sig_calls.specs.Subjects.{adding, removing}
 use Rattle.sig_calls.specs.Verifying.{verifying}
 use Rattle.sig_calls.specs.Handing.{delivering, handing}
-use Rattle.sig_calls.specs.Overseeing.{dropping, figuring, listing}
+use Rattle.sig_calls.specs.Overseeing.{dropping, figuring, listing, refusing}
 use Rattle.sig_calls.specs.Polling.{polling}
 use Rattle.sig_calls.specs.Publishing.{publishing}
 use Rattle.sig_calls.specs.Settling.{settling}
@@ -41,6 +41,7 @@ told_of rules sum (Publish id news) now = publishing sum.parts id news now
 told_of rules sum (OperatorStatus stream status reason) now = operating sum.parts stream status reason now
 told_of rules sum (OperatorDelete stream) now = dropping sum.parts stream
 told_of rules sum (Streams from) now = listing sum from
+told_of rules sum (Refused from) now = refusing sum from
 told_of rules sum Figures now = figuring sum
 told_of rules sum (Deliver stream) now = delivering sum.parts stream
 told_of rules sum (Hand streams) now = handing sum streams

@@ -16,4 +16,6 @@ mod set;
 #[cfg(test)]
 mod settings;
 #[cfg(test)]
+mod subjects;
+#[cfg(test)]
 mod tokens;

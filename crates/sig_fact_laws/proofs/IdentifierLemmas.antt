@@ -18,7 +18,8 @@ use Rattle.sig_history.proofs.StreamLemmas.{same_text, text_itself}
 use Rattle.sig_history.proofs.WholeLemmas.{few_past, whole_after, whole_distinct}
 use Rattle.sig_fact_laws.specs.Identifiers.{IdentifiersDiffer, all_owed, jti_in}
 use Rattle.sig_fact_laws.proofs.JtiLemmas.{jti_says}
-use Rattle.sig_fact_laws.proofs.SpentLemmas.{IsAhead, IsSpent, ahead_before, all_ahead, all_append, all_both, all_spent, all_weaker, each_named, owed_within, own_spent, spent_apart}
+use Rattle.sig_history.proofs.SpentLemmas.{all_append, all_both, all_weaker, each_named}
+use Rattle.sig_fact_laws.proofs.SpentLemmas.{IsAhead, IsSpent, ahead_before, all_ahead, all_spent, owed_within, own_spent, spent_apart}
 
 -- ---- tokens without a common identifier
 

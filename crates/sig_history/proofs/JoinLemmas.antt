@@ -1,12 +1,15 @@
 -- A history may be taken up where an earlier part of it ended.
-use Rattle.std.proofs.Common.{◌≡◌, ◌∙◌, ap, sym, ℕ, List, [], ◌∷◌, ◌++◌, map, filter, Bool, true, false, not, ◌&&◌, ◌||◌, bytes_eq, if◌then◌else◌, refl, append_assoc}
+use Rattle.std.proofs.Common.{◌≡◌, ◌∙◌, ap, sym, ℕ, List, [], ◌∷◌, ◌++◌, map, filter, Bool, true, false, not, ◌&&◌, ◌||◌, bytes_eq, if◌then◌else◌, refl, append_assoc, append-nil}
 use Rattle.std.proofs.lemmas.Bool.{or_parts}
 use Rattle.std.proofs.lemmas.List.Elements.{filter-append}
 use Rattle.std.proofs.lemmas.Slice.Eq.{bytes_eq-Decides}
 use Rattle.sig_terms.specs.declared.fact.Fact.{Fact}
+use Rattle.sig_terms.specs.declared.fact.Fact.TheVariants.{Created, Configured, StatusSet, Listed, Unlisted, Deleted, Published, Settled, Asked}
+use Rattle.sig_terms.specs.declared.refused_token.RefusedToken.{RefusedToken}
 use Rattle.sig_history.specs.Streams.{Stream, Parts, Made, is_named, stands}
 use Rattle.sig_history.specs.Facts.{made_by, parts_after, parts_of}
-use Rattle.sig_history.specs.Owed.{Sum, is_of, takes_off, survives, owed_of, owed_in, owed_after, sum_of}
+use Rattle.sig_history.specs.Owed.{Sum, is_of, takes_off, survives, owed_of, owed_in, owed_after, refused_by, refused_of, sum_after, sum_of}
+use Rattle.sig_history.specs.Refused.{Refusals, refused_in, with_refused}
 
 -- ---- parts, and the tokens that survive
 
@@ -142,12 +145,90 @@ map_same : {X Y : Type 0} (f g : X → Y) → ((x : X) → f x ≡ g x) → (xs 
 map_same f g same [] = refl
 map_same f g same (x ∷ xs) = ap (λ y. y ∷ map f xs) (same x) ∙ ap (λ l. g x ∷ l) (map_same f g same xs)
 
+-- ---- what is kept of reported tokens
+
+-- what stands beside no stream is nothing
+none_held : (name : List ℕ) (ss : List Stream) (os : List (List Made)) → stands name ss ≡ false → owed_in name ss os ≡ []
+none_held name [] os absent = refl
+none_held name (s ∷ ss) [] absent = refl
+none_held name (s ∷ ss) (o ∷ os) absent =
+    let parts = or_parts (is_named name s) (stands name ss) absent in
+    ap (λ b. if b then o else owed_in name ss os) parts.0 ∙ none_held name ss os parts.1
+
+filter_whole : {X : Type 0} (p : X → Bool) → ((x : X) → p x ≡ true) → (xs : List X) → filter p xs ≡ xs
+filter_whole p all [] = refl
+filter_whole p all (x ∷ xs) = ap (λ b. if b then x ∷ filter p xs else filter p xs) (all x) ∙ ap (λ l. x ∷ l) (filter_whole p all xs)
+
+-- what a sum says that a stream owes is what stands beside it
+held_again : (base : Sum) (name : List ℕ)
+    → owed_in name base.parts.streams base.owed
+    ≡ owed_in name base.parts.streams (map (λ (s : Stream). owed_after base [] s.conf.stream) base.parts.streams)
+held_again base name =
+    let ss : List Stream = base.parts.streams in
+    let held : List Made = owed_in name ss base.owed in
+    elim (stands name ss) as (λ b. stands name ss ≡ b
+    → held ≡ owed_in name ss (map (λ (s : Stream). owed_after base [] s.conf.stream) ss)) [
+      | true ↦ λ is. sym (found (owed_after base []) name ss is ∙ append-nil (filter (survives name base.parts []) held)
+          ∙ filter_whole (survives name base.parts []) (λ t. is) held)
+      | false ↦ λ is. none_held name ss base.owed is ∙ sym (none_in name ss (owed_after base []) is)
+    ] refl
+
+-- a sum with other lists, from which each stream owes the same, comes to the same by one fact more
+abbrev with_held : Sum → List (List Made) → Sum
+with_held base os = record { parts = base.parts; owed = os; refused = base.refused }
+
+abbrev HoldsSame : Sum → List (List Made) → Type 0
+HoldsSame base os = (name : List ℕ) → owed_in name base.parts.streams base.owed ≡ owed_in name base.parts.streams os
+
+refused_alike : (base : Sum) (os : List (List Made)) (f : Fact) → HoldsSame base os → refused_by base f ≡ refused_by (with_held base os) f
+refused_alike base os (Created conf time) same = refl
+refused_alike base os (Configured stream requested delivery description) same = refl
+refused_alike base os (StatusSet stream status reason operator time) same = refl
+refused_alike base os (Listed stream subject) same = refl
+refused_alike base os (Unlisted stream subject) same = refl
+refused_alike base os (Deleted stream) same = refl
+refused_alike base os (Published id news time) same = refl
+refused_alike base os (Settled stream items) same = ap (λ l. refused_in base.parts.published l items) (same stream)
+refused_alike base os (Asked stream state time) same = refl
+
+alike_after : (base : Sum) (os : List (List Made)) (f : Fact) → HoldsSame base os → sum_after base f ≡ sum_after (with_held base os) f
+alike_after base os f same =
+    let p : Parts = base.parts in
+    let after : Parts = parts_after p f in
+    let other : Sum = with_held base os in
+    ap (λ (l : List (List Made)). record { parts = after; owed = l; refused = with_refused base.refused (refused_by base f) })
+    (map_same (λ (s : Stream). owed_after base (f ∷ []) s.conf.stream) (λ (s : Stream). owed_after other (f ∷ []) s.conf.stream)
+    (λ (s : Stream). ap (λ l. filter (survives s.conf.stream p (f ∷ [])) l ++ owed_of s.conf.stream p (f ∷ [])) (same s.conf.stream)) after.streams)
+    ∙ ap (λ (l : List RefusedToken). record {
+      parts = after;
+      owed = map (λ (s : Stream). owed_after other (f ∷ []) s.conf.stream) after.streams;
+      refused = with_refused base.refused l;
+    }) (refused_alike base os f same)
+
+refused_again : (base : Sum) (facts : List Fact) → refused_of base facts ≡ refused_of (sum_of base []) facts
+refused_again base [] = refl
+refused_again base (f ∷ facts) =
+    ap (λ sum. refused_of sum facts)
+    (alike_after base (map (λ (s : Stream). owed_after base [] s.conf.stream) base.parts.streams) f (held_again base))
+
 -- ---- two parts of a history are one history
 
-pub joined : (base : Sum) (first second : List Fact) → sum_of base (first ++ second) ≡ sum_of (sum_of base first) second
-joined base first second =
-    let whole : Parts = parts_of base.parts (first ++ second) in
-    ap (λ (p : Parts). record { parts = p; owed = map (λ (s : Stream). owed_after base (first ++ second) s.conf.stream) p.streams })
+joined_by : (base : Sum) (first second : List Fact) → refused_of base (first ++ second) ≡ refused_of (sum_of base first) second
+    → sum_of base (first ++ second) ≡ sum_of (sum_of base first) second
+joined_by base first second refused =
+    let both : List Fact = first ++ second in
+    let last : Parts = parts_of (parts_of base.parts first) second in
+    ap (λ (p : Parts). record { parts = p; owed = map (λ (s : Stream). owed_after base both s.conf.stream) p.streams; refused = refused_of base both })
     (parts_join base.parts first second)
-    ∙ ap (λ l. record { parts = parts_of (parts_of base.parts first) second; owed = l })
-    (map_same _ _ (λ (s : Stream). owed_same base first second s.conf.stream) (parts_of (parts_of base.parts first) second).streams)
+    ∙ ap (λ (l : List (List Made)). record { parts = last; owed = l; refused = refused_of base both })
+    (map_same _ _ (λ (s : Stream). owed_same base first second s.conf.stream) last.streams)
+    ∙ ap (λ (r : Refusals). record { parts = last; owed = (sum_of (sum_of base first) second).owed; refused = r }) refused
+
+pub refused_join : (base : Sum) (first second : List Fact) → refused_of base (first ++ second) ≡ refused_of (sum_of base first) second
+refused_join base [] second = refused_again base second
+refused_join base (f ∷ first) second =
+    refused_join (sum_after base f) first second
+    ∙ ap (λ sum. refused_of sum second) (sym (joined_by base (f ∷ []) first refl))
+
+pub joined : (base : Sum) (first second : List Fact) → sum_of base (first ++ second) ≡ sum_of (sum_of base first) second
+joined base first second = joined_by base first second (refused_join base first second)

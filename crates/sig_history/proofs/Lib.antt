@@ -4,3 +4,5 @@ pub mod SizeLemmas
 pub mod StepLemmas
 pub mod WholeLemmas
 pub mod ChangeLemmas
+pub mod SpentLemmas
+pub mod RefusedLemmas

@@ -8,7 +8,8 @@ use Rattle.sig_event.specs.declared.news.News.{News}
 use Rattle.sig_terms.specs.declared.fact.Fact.{Fact}
 use Rattle.sig_history.specs.Streams.{Stream, Count, Publication, Parts, Made, is_before, is_named, next_token, put_in_order, stands}
 use Rattle.sig_history.specs.Facts.{brought_by, counted, made_by, parts_after, placed, published_by, removed_by, stream_after, tells, time_of, token_by, token_for, without}
-use Rattle.sig_history.specs.Owed.{Sum, is_of, owed_after, owed_in, owed_of, sum_of, survives, takes_off}
+use Rattle.sig_history.specs.Owed.{Sum, is_of, owed_after, owed_in, owed_of, sum_of, survives, takes_off, refused_by}
+use Rattle.sig_history.specs.Refused.{Refusals, with_refused}
 use Rattle.sig_history.specs.Standings.{Standing, owed_in_standing, placed_standing, put_standing, standing_after, stream_in, sum_with, without_standing}
 use Rattle.sig_history.proofs.JoinLemmas.{filter_mapped, filter_same}
 use Rattle.sig_history.proofs.StreamLemmas.{after_same, is_taken, other_text, stands_after, stands_placed, stands_without, text_itself}
@@ -217,10 +218,10 @@ Owes base f s = s.owed ≡ owed_after base (f ∷ []) (name_of s)
 abbrev OwesIfKept : Sum → Fact → Standing → Type 0
 OwesIfKept base f s = is_taken (removed_by f) (name_of s) ≡ false → Owes base f s
 
-old_owes : (sid : List ℕ) (ss : List Standing) (created : List Count) (published : List Publication) (f : Fact)
-    → AreDistinct (map stream_in ss) → Each (λ s. OwesIfKept (sum_with sid ss created published) f (standing_after sid f s)) ss
-old_owes sid ss created published f distinct =
-    let base : Sum = sum_with sid ss created published in
+old_owes : (sid : List ℕ) (ss : List Standing) (created : List Count) (published : List Publication) (refused : Refusals) (f : Fact)
+    → AreDistinct (map stream_in ss) → Each (λ s. OwesIfKept (sum_with sid ss created published refused) f (standing_after sid f s)) ss
+old_owes sid ss created published refused f distinct =
+    let base : Sum = sum_with sid ss created published refused in
     let streams : List Stream = map stream_in ss in
     let made : List Made = made_by base.parts f in
     let brought : Option Stream = brought_by base.parts f in
@@ -241,23 +242,24 @@ old_owes sid ss created published f distinct =
     ∙ ap (λ l. filter (λ (t : Made). not (takes_off (name_of s) f t)) s.owed ++ l) both.1))
     ss (all_stand ss) owed_and_made
 
-new_owes : (sid : List ℕ) (ss : List Standing) (created : List Count) (published : List Publication) (f : Fact) (o : Option Stream)
-    → IsFresh (map stream_in ss) o → IfBrought (Owes (sum_with sid ss created published) f) o
-new_owes sid ss created published f None fresh = tt
-new_owes sid ss created published f (Some s) fresh =
-    sym (owed_new (sum_with sid ss created published) f s.conf.stream (none_beside s.conf.stream ss fresh)
+new_owes : (sid : List ℕ) (ss : List Standing) (created : List Count) (published : List Publication) (refused : Refusals) (f : Fact) (o : Option Stream)
+    → IsFresh (map stream_in ss) o → IfBrought (Owes (sum_with sid ss created published refused) f) o
+new_owes sid ss created published refused f None fresh = tt
+new_owes sid ss created published refused f (Some s) fresh =
+    sym (owed_new (sum_with sid ss created published refused) f s.conf.stream (none_beside s.conf.stream ss fresh)
     (none_for s.conf.stream sid f (map stream_in ss) fresh))
 
 -- what streams with what they owe come to by one fact more
-pub stepped_sum : (sid : List ℕ) (ss : List Standing) (created : List Count) (published : List Publication) (f : Fact)
-    → AreDistinct (map stream_in ss) → IsFresh (map stream_in ss) (brought_by (sum_with sid ss created published).parts f)
-    → sum_of (sum_with sid ss created published) (f ∷ [])
-    ≡ sum_with sid (placed_standing (brought_by (sum_with sid ss created published).parts f)
+pub stepped_sum : (sid : List ℕ) (ss : List Standing) (created : List Count) (published : List Publication) (refused : Refusals) (f : Fact)
+    → AreDistinct (map stream_in ss) → IsFresh (map stream_in ss) (brought_by (sum_with sid ss created published refused).parts f)
+    → sum_of (sum_with sid ss created published refused) (f ∷ [])
+    ≡ sum_with sid (placed_standing (brought_by (sum_with sid ss created published refused).parts f)
     (without_standing (removed_by f) (map (standing_after sid f) ss)))
-    (counted (brought_by (sum_with sid ss created published).parts f) created)
-    (published ++ published_by (sum_with sid ss created published).parts f)
-stepped_sum sid ss created published f distinct fresh =
-    let base : Sum = sum_with sid ss created published in
+    (counted (brought_by (sum_with sid ss created published refused).parts f) created)
+    (published ++ published_by (sum_with sid ss created published refused).parts f)
+    (with_refused refused (refused_by (sum_with sid ss created published refused) f))
+stepped_sum sid ss created published refused f distinct fresh =
+    let base : Sum = sum_with sid ss created published refused in
     let p : Parts = base.parts in
     let brought : Option Stream = brought_by p f in
     let after : List Standing = map (standing_after sid f) ss in
@@ -268,10 +270,15 @@ stepped_sum sid ss created published f distinct fresh =
     placed_streams brought kept
     ∙ ap (placed brought) (without_streams (removed_by f) after ∙ ap (without (removed_by f)) (after_streams sid f ss)) in
     let each : Each (Owes base f) next =
-    each_placed (Owes base f) brought kept (new_owes sid ss created published f brought fresh)
+    each_placed (Owes base f) brought kept (new_owes sid ss created published refused f brought fresh)
     (each_without (Owes base f) (removed_by f) after
-    (each_map (OwesIfKept base f) (standing_after sid f) ss (old_owes sid ss created published f distinct))) in
-    ap (λ (l : List Stream). record { parts = parts_with l; owed = map (λ (t : Stream). owed_after base (f ∷ []) t.conf.stream) l }) (sym streams)
-    ∙ ap (λ (l : List (List Made)). record { parts = parts_with (map stream_in next); owed = l })
+    (each_map (OwesIfKept base f) (standing_after sid f) ss (old_owes sid ss created published refused f distinct))) in
+    let kept_refused : Refusals = with_refused refused (refused_by base f) in
+    ap (λ (l : List Stream). record {
+      parts = parts_with l;
+      owed = map (λ (t : Stream). owed_after base (f ∷ []) t.conf.stream) l;
+      refused = kept_refused;
+    }) (sym streams)
+    ∙ ap (λ (l : List (List Made)). record { parts = parts_with (map stream_in next); owed = l; refused = kept_refused })
     (map-map (λ (t : Stream). owed_after base (f ∷ []) t.conf.stream) stream_in next
     ∙ sym (map_each owed_in_standing (λ s. owed_after base (f ∷ []) (name_of s)) next each))

@@ -18,6 +18,7 @@ use Rattle.sig_terms.specs.declared.fact.Fact.TheVariants.{Created, Configured, 
 use Rattle.sig_history.specs.Streams.{Stream, Count, Publication, Parts, Made, client_in, comes_before, count_one, created_by, hyphen, is_before, is_named, stands, stream_name}
 use Rattle.sig_history.specs.Facts.{brought_by, counted, made_by, removed_by, stream_after, tells, time_of, token_by, token_for, told_one, without}
 use Rattle.sig_history.specs.Owed.{Sum, sum_of, takes_off}
+use Rattle.sig_history.specs.Refused.{Refusals}
 use Rattle.sig_history.specs.Sound.{Fits, is_apt, is_client_name, is_long, is_next, is_past, is_small, may_be_made}
 use Rattle.sig_history.specs.Standings.{Standing, owed_in_standing, placed_standing, put_standing, standing_after, stream_in, sum_with, without_standing}
 use Rattle.sig_history.specs.Whole.{AreSorted, AreWhole, IsOwnToken, IsRising, IsWhole, IsWholeStream, StandsBefore}
@@ -47,14 +48,15 @@ same_owed sid created (s ∷ ss) (o ∷ os) whole = ap (λ l. o ∷ l) (same_owe
 
 -- what is whole is its streams with what they owe
 pub whole_with : (sum : Sum) → IsWhole sum
-    → sum_with sum.parts.store_id (standings_of sum.parts.streams sum.owed) sum.parts.created sum.parts.published ≡ sum
+    → sum_with sum.parts.store_id (standings_of sum.parts.streams sum.owed) sum.parts.created sum.parts.published sum.refused ≡ sum
 whole_with sum whole =
     let p : Parts = sum.parts in
     ap (λ (l : List Stream). record {
       parts = record { store_id = p.store_id; streams = l; created = p.created; published = p.published };
       owed = map owed_in_standing (standings_of p.streams sum.owed);
+      refused = sum.refused;
     }) (same_streams p.store_id p.created p.streams sum.owed whole)
-    ∙ ap (λ (l : List (List Made)). record { parts = p; owed = l }) (same_owed p.store_id p.created p.streams sum.owed whole)
+    ∙ ap (λ (l : List (List Made)). record { parts = p; owed = l; refused = sum.refused }) (same_owed p.store_id p.created p.streams sum.owed whole)
 
 abbrev pub AreWholeStandings : List ℕ → List Count → List Standing → Type 0
 AreWholeStandings sid created ss = AreWhole sid created (map stream_in ss) (map owed_in_standing ss)
@@ -392,15 +394,15 @@ few_past sum f fits =
     not-true (list_any is_past tokens) (and_parts (not (list_any is_past tokens)) (not (is_long tokens))
     (and_parts (may_be_made tokens) (is_apt sum f) fits).0).0
 
-whole_step : (sid : List ℕ) (ss : List Standing) (created : List Count) (published : List Publication) (f : Fact)
-    → IsWhole (sum_with sid ss created published) → Fits (sum_with sid ss created published) f
-    → IsWhole (sum_of (sum_with sid ss created published) (f ∷ []))
-whole_step sid ss created published f whole fits =
-    let base : Sum = sum_with sid ss created published in
+whole_step : (sid : List ℕ) (ss : List Standing) (created : List Count) (published : List Publication) (refused : Refusals) (f : Fact)
+    → IsWhole (sum_with sid ss created published refused) → Fits (sum_with sid ss created published refused) f
+    → IsWhole (sum_of (sum_with sid ss created published refused) (f ∷ []))
+whole_step sid ss created published refused f whole fits =
+    let base : Sum = sum_with sid ss created published refused in
     let brought : Option Stream = brought_by base.parts f in
     let next : BringsNext created brought = fits_brings base f fits in
     subst IsWhole
-    (sym (stepped_sum sid ss created published f (whole_distinct sid created (map stream_in ss) (map owed_in_standing ss) whole)
+    (sym (stepped_sum sid ss created published refused f (whole_distinct sid created (map stream_in ss) (map owed_in_standing ss) whole)
     (whole_fresh sid created brought (map stream_in ss) (map owed_in_standing ss) next whole)))
     (placed_whole sid created brought (without_standing (removed_by f) (map (standing_after sid f) ss)) next
     (without_whole sid created (removed_by f) (map (standing_after sid f) ss)
@@ -410,4 +412,4 @@ pub whole_after : (sum : Sum) (f : Fact) → IsWhole sum → Fits sum f → IsWh
 whole_after sum f whole fits =
     let p : Parts = sum.parts in
     subst (λ s. IsWhole s → Fits s f → IsWhole (sum_of s (f ∷ []))) (whole_with sum whole)
-    (whole_step p.store_id (standings_of p.streams sum.owed) p.created p.published f) whole fits
+    (whole_step p.store_id (standings_of p.streams sum.owed) p.created p.published sum.refused f) whole fits

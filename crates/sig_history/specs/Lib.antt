@@ -1,9 +1,11 @@
 pub mod Streams
 pub mod Facts
+pub mod Refused
 pub mod Owed
 pub mod Sizes
 pub mod Sound
 pub mod Whole
 pub mod Standings
+pub mod Spent
 pub mod Ours
 pub mod Changes

@@ -1,4 +1,5 @@
--- What streams owe: of all the tokens made, those that no later fact takes off.
+-- What streams owe: of all the tokens made, those that no later fact takes off; and beside that those that were reported as
+-- faulty.
 use Rattle.std.specs.Prelude.{ℕ, List, [], ◌∷◌, ◌++◌, ◌==◌, Bool, false, not, ◌&&◌, ◌||◌, bytes_eq, map, filter, length, Option, None, Some, if◌then◌else◌}
 use Rattle.std.specs.List.{list_any}
 use Rattle.std.specs.Option.{option_map_or}
@@ -6,13 +7,17 @@ use Rattle.sig_event.specs.declared.status.Status.{Status}
 use Rattle.sig_terms.specs.declared.fact.Fact.{Fact}
 use Rattle.sig_terms.specs.declared.fact.Fact.TheVariants.{Created, Configured, StatusSet, Listed, Unlisted, Deleted, Published, Settled, Asked}
 use Rattle.sig_terms.specs.declared.fact.SettledItem.{SettledItem}
+use Rattle.sig_terms.specs.declared.refused_token.RefusedToken.{RefusedToken}
 use Rattle.sig_history.specs.Streams.{Stream, Parts, Made, is_disabled, is_enabled, is_named, is_notice, stands}
 use Rattle.sig_history.specs.Facts.{made_by, parts_after, parts_of}
+use Rattle.sig_history.specs.Refused.{Refusals, no_refusals, refused_in, with_refused}
 
--- what a history comes to: its parts, and beside each stream the tokens that it owes, in order of number
+-- what a history comes to: its parts, beside each stream the tokens that it owes, in order of number, and the tokens that were
+-- reported as faulty
 pub record Sum : Type 0 where
   pub parts : Parts
   pub owed : List (List Made)
+  pub refused : Refusals
 
 -- a token of this stream
 abbrev pub is_of : List ℕ → Made → Bool
@@ -58,11 +63,37 @@ abbrev pub owed_after : Sum → List Fact → List ℕ → List Made
 owed_after base facts name =
     filter (survives name base.parts facts) (owed_in name base.parts.streams base.owed) ++ owed_of name base.parts facts
 
+-- the tokens that a fact says were reported as faulty, over what the facts before it came to
+abbrev pub refused_by : Sum → Fact → List RefusedToken
+refused_by sum (Created conf time) = []
+refused_by sum (Configured stream requested delivery description) = []
+refused_by sum (StatusSet stream status reason operator time) = []
+refused_by sum (Listed stream subject) = []
+refused_by sum (Unlisted stream subject) = []
+refused_by sum (Deleted stream) = []
+refused_by sum (Published id news time) = []
+refused_by sum (Settled stream items) = refused_in sum.parts.published (owed_in stream sum.parts.streams sum.owed) items
+refused_by sum (Asked stream state time) = []
+
+-- what one fact more comes to
+abbrev pub sum_after : Sum → Fact → Sum
+sum_after base f = record {
+  parts = parts_after base.parts f;
+  owed = map (λ (s : Stream). owed_after base (f ∷ []) s.conf.stream) (parts_after base.parts f).streams;
+  refused = with_refused base.refused (refused_by base f);
+}
+
+-- what is kept of tokens that were reported as faulty, after facts over a base: a deletion of their stream leaves them
+abbrev pub refused_of : Sum → List Fact → Refusals
+refused_of base [] = base.refused
+refused_of base (f ∷ fs) = refused_of (sum_after base f) fs
+
 -- what a history comes to
 abbrev pub sum_of : Sum → List Fact → Sum
 sum_of base facts = record {
   parts = parts_of base.parts facts;
   owed = map (λ (s : Stream). owed_after base facts s.conf.stream) (parts_of base.parts facts).streams;
+  refused = refused_of base facts;
 }
 
 -- a new store
@@ -70,6 +101,7 @@ abbrev pub empty_sum : List ℕ → Sum
 empty_sum store_id = record {
   parts = record { store_id = store_id; streams = []; created = []; published = [] };
   owed = [];
+  refused = no_refusals;
 }
 
 -- what the stream of a name owes

@@ -4,6 +4,7 @@ use Rattle.sig_terms.specs.declared.fact.Fact.{Fact}
 use Rattle.sig_history.specs.Streams.{Stream, Count, Publication, Made, is_before, is_named}
 use Rattle.sig_history.specs.Facts.{stream_after, token_for}
 use Rattle.sig_history.specs.Owed.{Sum, takes_off}
+use Rattle.sig_history.specs.Refused.{Refusals}
 
 -- a stream that stands, and the tokens that it owes
 pub record Standing : Type 0 where
@@ -16,11 +17,12 @@ stream_in s = s.stream
 abbrev pub owed_in_standing : Standing → List Made
 owed_in_standing s = s.owed
 
--- what streams, counts and publications come to
-abbrev pub sum_with : List ℕ → List Standing → List Count → List Publication → Sum
-sum_with store_id standings created published = record {
+-- what streams, counts, publications and reported tokens come to
+abbrev pub sum_with : List ℕ → List Standing → List Count → List Publication → Refusals → Sum
+sum_with store_id standings created published refused = record {
   parts = record { store_id = store_id; streams = map stream_in standings; created = created; published = published };
   owed = map owed_in_standing standings;
+  refused = refused;
 }
 
 -- a stream after a fact: its old tokens without those that the fact takes off, and then the one that the fact makes

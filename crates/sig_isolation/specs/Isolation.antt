@@ -1,7 +1,7 @@
 -- What other clients do changes nothing: in a client's part of a history, and in what the client is told.
 use Rattle.std.specs.Prelude.{◌≡◌, ℕ, List, Bool, true, false, bytes_eq, map, filter}
 use Rattle.sig_terms.specs.declared.call.Call.{Call}
-use Rattle.sig_terms.specs.declared.call.Call.TheVariants.{Metadata, Create, ReadAll, Read, Patch, Put, Delete, GetStatus, SetStatus, Add, Remove, Verify, Poll, Publish, OperatorStatus, OperatorDelete, Streams, Figures, Deliver, Hand, Settle}
+use Rattle.sig_terms.specs.declared.call.Call.TheVariants.{Metadata, Create, ReadAll, Read, Patch, Put, Delete, GetStatus, SetStatus, Add, Remove, Verify, Poll, Publish, OperatorStatus, OperatorDelete, Streams, Refused, Figures, Deliver, Hand, Settle}
 use Rattle.sig_terms.specs.declared.fact.Fact.{Fact}
 use Rattle.sig_terms.specs.declared.fact.Fact.TheVariants.{Created, Configured, StatusSet, Listed, Unlisted, Deleted, Published, Settled, Asked}
 use Rattle.sig_terms.specs.declared.rules.Rules.{Rules}
@@ -66,6 +66,7 @@ is_call_of client (Publish id news) = false
 is_call_of client (OperatorStatus stream status reason) = false
 is_call_of client (OperatorDelete stream) = false
 is_call_of client (Streams from) = false
+is_call_of client (Refused from) = false
 is_call_of client Figures = false
 is_call_of client (Deliver stream) = false
 is_call_of client (Hand streams) = false

@@ -12,7 +12,7 @@ use Rattle.sig_set.specs.Written.{token_text}
 use Rattle.sig_terms.specs.declared.rules.Rules.{Rules}
 use Rattle.sig_terms.specs.declared.token.Token.{Token}
 use Rattle.sig_terms.specs.declared.call.Call.{Call}
-use Rattle.sig_terms.specs.declared.call.Call.TheVariants.{Metadata, Create, ReadAll, Read, Patch, Put, Delete, GetStatus, SetStatus, Add, Remove, Verify, Poll, Publish, OperatorStatus, OperatorDelete, Streams, Figures, Deliver, Hand, Settle}
+use Rattle.sig_terms.specs.declared.call.Call.TheVariants.{Metadata, Create, ReadAll, Read, Patch, Put, Delete, GetStatus, SetStatus, Add, Remove, Verify, Poll, Publish, OperatorStatus, OperatorDelete, Streams, Refused, Figures, Deliver, Hand, Settle}
 use Rattle.sig_terms.specs.declared.call.Outcome.{Outcome}
 use Rattle.sig_terms.specs.declared.call.Outcome.TheVariants as outcome
 use Rattle.sig_terms.specs.declared.call.PollAsk.{PollAsk}
@@ -101,6 +101,7 @@ may_come replies (Publish id news) = true
 may_come replies (OperatorStatus stream status reason) = true
 may_come replies (OperatorDelete stream) = true
 may_come replies (Streams from) = true
+may_come replies (Refused from) = true
 may_come replies Figures = true
 may_come replies (Deliver stream) = true
 may_come replies (Hand streams) = true

@@ -29,18 +29,20 @@ use Rattle.sig_ledger.specs.Room.{HaveRoom}
 use Rattle.std.proofs.Common.{false, if◌then◌else◌}
 use Rattle.sig_accounts.proofs.FoundLemmas.{book_streams}
 use Rattle.sig_accounts.proofs.ChangeLemmas.{changed_at, created_all, deleted_all, removed_at, stands_at}
+use Rattle.sig_accounts.specs.Reported.{Reported}
 use Rattle.sig_ledger.proofs.TakenBooks.{MayTake, taken, taken_kept, taken_sum}
 use Rattle.sig_accounts.proofs.StandingLemmas.{last_news, placed_owing, without_owing}
 
 -- ---- one stream
 
 -- the books that a ledger's fields hold
-abbrev pub books_in : List ℕ → List Balance → List Count → List Publication → Books
-books_in sid bs created published = record { store_id = sid; owings = map owing_in bs; created = created; published = published }
+abbrev pub books_in : List ℕ → List Balance → List Count → List Publication → Reported → Books
+books_in sid bs created published refused =
+    record { store_id = sid; owings = map owing_in bs; created = created; published = published; refused = refused }
 
 -- the books with other streams
 abbrev pub with_owings : Books → List Owing → Books
-with_owings b owings = record { store_id = b.store_id; owings = owings; created = b.created; published = b.published }
+with_owings b owings = record { store_id = b.store_id; owings = owings; created = b.created; published = b.published; refused = b.refused }
 
 -- a fact changes streams that stand, and nothing else
 pub record IsChange (b : Books) (f : Fact) (w : Said) (owings : List Owing) : Type 0 where
@@ -54,19 +56,21 @@ change_is : (b : Books) (f : Fact) (w : Said) (owings : List Owing) → IsChange
 change_is b f w owings change =
     let os : List Owing = map (owing_after f w) b.owings in
     ap (with_owings b) change.now
-    ∙ ap (λ (l : List Publication). record { store_id = b.store_id; owings = os; created = b.created; published = l }) (sym (append-nil b.published))
-    ∙ ap (λ (l : List Publication). record { store_id = b.store_id; owings = os; created = b.created; published = b.published ++ l }) (sym change.publishes)
+    ∙ ap (λ (l : List Publication). record { store_id = b.store_id; owings = os; created = b.created; published = l; refused = b.refused }) (sym (append-nil b.published))
+    ∙ ap (λ (l : List Publication). record { store_id = b.store_id; owings = os; created = b.created; published = b.published ++ l; refused = b.refused }) (sym change.publishes)
     ∙ ap (λ (o : Option Stream). record {
       store_id = b.store_id;
       owings = placed_owing o os;
       created = counted o b.created;
       published = b.published ++ published_by (sum_in b).parts f;
+      refused = b.refused;
     }) (sym change.brings)
     ∙ ap (λ (o : Option (List ℕ)). record {
       store_id = b.store_id;
       owings = placed_owing (brought_by (sum_in b).parts f) (without_owing o os);
       created = counted (brought_by (sum_in b).parts f) b.created;
       published = b.published ++ published_by (sum_in b).parts f;
+      refused = b.refused;
     }) (sym change.removes)
 
 pub change_sum : (b : Books) (f : Fact) (w : Said) (owings : List Owing) → IsChange b f w owings
@@ -137,6 +141,8 @@ may_set b name status reason operator time kept fits = record {
   fits = fits;
   says = λ s told. ap (λ n. updated_news n status reason) (named_as name s (and_parts operator (is_named name s) told).1);
   placed = tt;
+  by = refl;
+  reported = record { same = refl; known = tt };
 }
 
 pub may_ask : (b : Books) (name : List ℕ) (state : Option (List ℕ)) (time : ℕ) → AreKept b → Fits (sum_in b) (Asked name state time)
@@ -146,6 +152,8 @@ may_ask b name state time kept fits = record {
   fits = fits;
   says = λ s told. ap (λ n. verified_news n state) (named_as name s told);
   placed = tt;
+  by = refl;
+  reported = record { same = refl; known = tt };
 }
 
 pub may_publish : (b : Books) (id : List ℕ) (n : News) (time : ℕ) → AreKept b → Fits (sum_in b) (Published id n time)
@@ -157,6 +165,8 @@ may_publish b id n time kept fits =
       fits = fits;
       says = λ s told. last_news b.published (record { id = id; news = n; issued = map issued_of (made_by (sum_in b).parts (Published id n time)) });
       placed = omega (arith, length-append b.published more);
+      by = refl;
+      reported = record { same = refl; known = tt };
     }
 
 -- ---- a stream that is brought
@@ -180,6 +190,7 @@ with_stream b conf = record {
   owings = put_owing (opened (stream_for b conf)) b.owings;
   created = count_one (client_in conf.stream) b.created;
   published = b.published;
+  refused = b.refused;
 }
 
 pub with_stream_is : (b : Books) (conf : StreamConf) (time : ℕ) → with_stream b conf ≡ taken b (Created conf time) nothing_said
@@ -189,12 +200,14 @@ with_stream_is b conf time =
       owings = put_owing (opened (stream_for b conf)) b.owings;
       created = count_one (client_in conf.stream) b.created;
       published = l;
+      refused = b.refused;
     }) (sym (append-nil b.published))
     ∙ ap (λ (os : List Owing). record {
       store_id = b.store_id;
       owings = put_owing (opened (stream_for b conf)) os;
       created = count_one (client_in conf.stream) b.created;
       published = b.published ++ [];
+      refused = b.refused;
     }) (sym (created_all conf time nothing_said b.owings))
 
 -- ---- a stream that is taken away
@@ -211,4 +224,5 @@ without_is b bs name place kept same at =
       owings = filter others (map (owing_after (Deleted name) nothing_said) b.owings);
       created = b.created;
       published = l;
+      refused = b.refused;
     }) (sym (append-nil b.published))

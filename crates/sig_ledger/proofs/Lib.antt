@@ -4,3 +4,4 @@ pub mod RoomLemmas
 pub mod TakenBooks
 pub mod ChangedBooks
 pub mod SameBooks
+pub mod ReportedBooks

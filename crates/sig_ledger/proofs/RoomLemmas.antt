@@ -9,6 +9,7 @@ use Rattle.sig_subject.specs.declared.subject.Subject.{Subject}
 use Rattle.sig_terms.specs.declared.fact.Fact.{Fact}
 use Rattle.sig_terms.specs.declared.fact.Fact.TheVariants.{Created, Configured, StatusSet, Listed, Unlisted, Deleted, Published, Settled, Asked}
 use Rattle.sig_history.specs.Facts.{is_told}
+use Rattle.sig_history.specs.Owed.{Sum}
 use Rattle.sig_history.specs.Standings as standings
 use Rattle.sig_history.specs.Streams.{Stream, Count, Parts, Publication, is_named}
 use Rattle.sig_accounts.specs.declared.debt.Notice.{Notice}
@@ -17,6 +18,7 @@ use Rattle.sig_history.specs.Whole.{IsWhole}
 use Rattle.sig_accounts.specs.Owings.{Balance, notice_for, owing_in, room_in, standing_of, stream_in, subjects_in}
 use Rattle.sig_ledger.specs.Books.{sum_in}
 use Rattle.sig_accounts.specs.Owings.{HasRoomFor, IsBelowTop}
+use Rattle.sig_accounts.specs.Reported.{none_reported}
 use Rattle.sig_accounts.specs.Telling.{Addressed, IsAddressed}
 use Rattle.sig_ledger.specs.Room.{HasOwnSpace, HasRoom, HaveRoom, IsAddressedIn, IsSpare, Rooms, Spare, with_told}
 
@@ -66,7 +68,7 @@ told_status stream status reason kept false time ss rooms held notice is some =
 
 -- the next number of each stream is one that is held
 pub tops_below : (sid : List ℕ) (published : List Publication) (created : List Count) (bs : List Balance)
-    → IsWhole (sum_in (record { store_id = sid; owings = map owing_in bs; created = created; published = published })) → All IsBelowTop bs
+    → IsWhole (sum_in (record { store_id = sid; owings = map owing_in bs; created = created; published = published; refused = none_reported })) → All IsBelowTop bs
 tops_below sid published created [] whole = All-nil IsBelowTop
 tops_below sid published created (b ∷ bs) whole =
     All-cons IsBelowTop b bs (let low : b.owing.stream.made ≤ LAST_NUMBER = whole.0.made in omega arith)
@@ -90,28 +92,30 @@ ok_is a b same (Err e) is = tt
 
 -- the streams of the books are those that are held
 pub told_in : (sid : List ℕ) (published : List Publication) (created : List Count) (bs : List Balance) (a : Addressed)
-    → IsAddressedIn (sum_in (record { store_id = sid; owings = map owing_in bs; created = created; published = published })).parts a
+    → IsAddressedIn (sum_in (record { store_id = sid; owings = map owing_in bs; created = created; published = published; refused = none_reported })).parts a
     → IsAddressed (map stream_in (map owing_in bs)) a
 told_in sid published created bs a is = is ∙ ap (map (is_told a.fact)) (book_streams sid published (map owing_in bs))
 
 -- what is kept of a fact beside itself is so whatever streams it tells
-told_beside : (parts : Parts) (f : Fact) (s : Spare) (told : List Bool) → IsSpare parts f s → IsSpare parts f (with_told told s)
-told_beside parts (Created conf time) s told is = is
-told_beside parts (Configured stream requested delivery description) s told is = is
-told_beside parts (StatusSet stream status reason operator time) s told is = is
-told_beside parts (Listed stream subject) s told is = is
-told_beside parts (Unlisted stream subject) s told is = is
-told_beside parts (Deleted stream) s told is = is
-told_beside parts (Published id news time) s told is = is
-told_beside parts (Settled stream items) s told is = is
-told_beside parts (Asked stream state time) s told is = is
+told_beside : (sum : Sum) (f : Fact) (s : Spare) (told : List Bool) → IsSpare sum f s → IsSpare sum f (with_told told s)
+told_beside sum (Created conf time) s told is = is
+told_beside sum (Configured stream requested delivery description) s told is = is
+told_beside sum (StatusSet stream status reason operator time) s told is = is
+told_beside sum (Listed stream subject) s told is = is
+told_beside sum (Unlisted stream subject) s told is = is
+told_beside sum (Deleted stream) s told is = is
+told_beside sum (Published id news time) s told is = is
+told_beside sum (Settled stream items) s told is = is
+told_beside sum (Asked stream state time) s told is = is
 
-pub ready_with : (parts : Parts) (room : Rooms) (a : Addressed) (s : Spare) → IsAddressedIn parts a → IsSpare parts a.fact s
-    → HaveRoom (is_told a.fact) parts.streams room.tokens → HasOwnSpace parts room a.fact
-    → HasRoom parts room (record { fact = a.fact; spare = with_told a.told s })
-ready_with parts room a s told spare tokens space = record {
-  spare = told_beside parts a.fact s a.told spare;
+pub ready_with : (sum : Sum) (room : Rooms) (a : Addressed) (s : Spare) → IsAddressedIn sum.parts a → IsSpare sum a.fact s
+    → HaveRoom (is_told a.fact) sum.parts.streams room.tokens → HasOwnSpace sum.parts room a.fact
+    → length s.reported ≤ room.refused
+    → HasRoom sum room (record { fact = a.fact; spare = with_told a.told s })
+ready_with sum room a s told spare tokens space refused = record {
+  spare = told_beside sum a.fact s a.told spare;
   told = told;
   tokens = tokens;
   space = space;
+  refused = refused;
 }

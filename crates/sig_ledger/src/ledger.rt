@@ -6,10 +6,9 @@ mod committing;
 mod fitting;
 mod readying;
 
-use indexmap::IndexMap;
 use sig_accounts::{
-    Account, Counted, Publication, account_named, client_account, copy_accounts, copy_list,
-    created_by, name_at, place_of, places_of, publication_at, same_accounts, streams_of,
+    Account, Counted, Listeners, Places, Publication, Refusals, account_named, client_account,
+    copy_accounts, copy_list, created_by, name_at, publication_at, same_accounts, streams_of,
 };
 use sig_json::{Memory, Text, same_slices};
 use std::alloc::Global;
@@ -24,8 +23,11 @@ pub struct Ledger {
     accounts: Vec<Account>,
     created: Vec<Counted>,
     published: Vec<Publication>,
-    // The place of the first publication of each id.
-    places: IndexMap<Text, usize>,
+    // Where the first publication of each id stands.
+    places: Places,
+    refused: Refusals,
+    // Which streams list a subject.
+    listeners: Listeners,
 }
 
 impl Drop for Ledger {
@@ -37,19 +39,23 @@ impl Drop for Ledger {
             created,
             published,
             places,
+            refused,
+            listeners,
         } = self;
         drop(accounts);
         drop(created);
         drop(published);
         drop(places);
+        drop(refused);
+        drop(listeners);
     }
 }
 
 impl Model for Ledger {
-    ghost use Rattle.std.specs.Prelude.{◌-◌, bytes_eq, map, vec_len, vec_capacity};
-    ghost use Rattle.indexmap.specs.IndexMap.{get, spare};
-    ghost use Rattle.sig_accounts.specs.Owings.{owing_in, room_in, subjects_in};
+    ghost use Rattle.std.specs.Prelude.{◌-◌, map, vec_len, vec_capacity};
+    ghost use Rattle.sig_accounts.specs.Owings.{list_of, owing_in, room_in, subjects_in};
     ghost use Rattle.sig_ledger.specs.Books.{AreKept};
+    ghost use Rattle.sig_accounts.specs.Listening.{IsListening};
     ghost use Rattle.sig_accounts.specs.Places.{IsIndex};
     ghost use Rattle.sig_ledger.specs.Room.{Held};
 
@@ -61,14 +67,17 @@ impl Model for Ledger {
         owings = map owing_in l.accounts.items;
         created = l.created.items;
         published = l.published.items;
+        refused = l.refused.reported;
       };
       room = record {
         streams = vec_capacity l.accounts - vec_len l.accounts;
         created = vec_capacity l.created - vec_len l.created;
         published = vec_capacity l.published - vec_len l.published;
-        ids = spare l.places;
+        ids = l.places.room;
         tokens = map room_in l.accounts.items;
         subjects = map subjects_in l.accounts.items;
+        refused = l.refused.room;
+        listeners = l.listeners;
       };
     } };
 
@@ -77,7 +86,9 @@ impl Model for Ledger {
       owings = map owing_in l.accounts.items;
       created = l.created.items;
       published = l.published.items;
-    }) × IsIndex (get bytes_eq l.places) l.published.items };
+      refused = l.refused.reported;
+    }) × IsIndex l.places.index l.published.items
+        × IsListening l.listeners (map list_of (map owing_in l.accounts.items)) };
 }
 
 impl Ledger {
@@ -85,6 +96,7 @@ impl Ledger {
     ghost use Rattle.sig_history.specs.Owed.{empty_sum, owed_count};
     ghost use Rattle.sig_history.specs.Streams as streams;
     ghost use Rattle.sig_accounts.specs.Owings.{client_owing, owing_in, owing_named};
+    ghost use Rattle.sig_accounts.specs.Reported.{refusals_at};
     ghost use Rattle.sig_ledger.specs.Books.{AreKept, sum_in};
 
     /// A new store's: no stream stands. It takes no memory.
@@ -97,7 +109,9 @@ impl Ledger {
             accounts: Vec::new(alloc),
             created: Vec::new(alloc),
             published: Vec::new(alloc),
-            places: IndexMap::new(alloc),
+            places: Places::new(alloc),
+            refused: Refusals::new(alloc),
+            listeners: Listeners::new(alloc),
         }
     }
 
@@ -112,7 +126,9 @@ impl Ledger {
             accounts: copy_accounts(alloc, self.accounts.as_slice())?,
             created: copy_list(alloc, self.created.as_slice())?,
             published: copy_list(alloc, self.published.as_slice())?,
-            places: places_of(alloc, self.published.as_slice())?,
+            places: self.places.copy(alloc)?,
+            refused: self.refused.copy(alloc)?,
+            listeners: self.listeners.copy()?,
         })
     }
 
@@ -126,14 +142,16 @@ impl Ledger {
         self.has_same_records(other) && same_accounts(everything, some, others)
     }
 
-    // Whether both are of one store, with the same counts and publications.
+    // Whether both are of one store, with the same counts, publications and reported tokens.
     fn has_same_records(&self, other: &Ledger) -> bool
         ensures { (result ≡ true) ↔ ((self.now.books.store_id ≡ other.now.books.store_id)
-            × (self.now.books.created ≡ other.now.books.created) × (self.now.books.published ≡ other.now.books.published)) }
+            × (self.now.books.created ≡ other.now.books.created) × (self.now.books.published ≡ other.now.books.published)
+            × (refusals_at self.now.books.published self.now.books.refused ≡ refusals_at self.now.books.published other.now.books.refused)) }
     {
         self.store_id == other.store_id
             && same_slices(self.created.as_slice(), other.created.as_slice())
             && same_slices(self.published.as_slice(), other.published.as_slice())
+            && self.refused.same(self.published.as_slice(), &other.refused)
     }
 
     /// Says nothing at run time. Its contract: the books are kept, which rests on each change of them.
@@ -190,10 +208,19 @@ impl Ledger {
     pub fn publication(&self, id: &Text) -> Option<&Publication>
         ensures { option_map (λ p. p.now) result ≡ streams.publication_of id.now self.now.books.published }
     {
-        match place_of(&self.places, id) {
+        let published = self.published.as_slice();
+        match self.places.place_of(published, id.as_str()) {
             None => None,
-            Some(place) => publication_at(self.published.as_slice(), place),
+            Some(place) => publication_at(published, place),
         }
+    }
+
+    /// The tokens that were reported as faulty, as they are held.
+    pub fn refused(&self) -> &Refusals
+        ensures refused { result.now.reported ≡ self.now.books.refused }
+        ensures kept { AreKept self.now.books }
+    {
+        &self.refused
     }
 
     /// How many streams a client ever made.

@@ -21,7 +21,7 @@ mod tokens;
 pub use ledger::Ledger;
 pub use prepared::{Prepared, Spare};
 pub use sig_accounts::{
-    Account, Addressed, Debt, Publication, Said, client_in, jti_text, stream_name,
+    Account, Addressed, Debt, Publication, Refusals, Said, client_in, jti_text, stream_name,
 };
 pub use step::Step;
 pub use tokens::{claims_for, news_of, owed_token, time_of};

@@ -1,10 +1,11 @@
-ghost use Rattle.std.specs.Prelude.{◌≡◌, [], None, Some, is_some, true};
+ghost use Rattle.std.specs.Prelude.{◌≡◌, [], None, Some, is_some, length, true};
 
 use indexmap::IndexSet;
-use sig_accounts::{Addressed, KeptToken, SharedName, ToldStreams};
+use sig_accounts::{Addressed, KeptRefusal, KeptToken, PublishId, SharedName, ToldStreams};
 use sig_json::{Items, Text};
 use sig_terms::Fact;
 use std::alloc::Global;
+use std::collections::VecDeque;
 use std::marker::Model;
 
 /// What is kept of a fact beside itself, made ready before it is taken in. What a fact needs none of is empty.
@@ -12,11 +13,12 @@ use std::marker::Model;
 pub struct Spare {
     client: Text,
     name: Option<SharedName>,
-    id: Text,
+    id: Option<PublishId>,
     issued: Items<KeptToken>,
     told: ToldStreams,
     numbers: IndexSet<u64>,
     reason: Option<Text>,
+    reported: VecDeque<KeptRefusal>,
 }
 
 impl Model for Spare {
@@ -32,28 +34,30 @@ impl Model for Spare {
       told = s.told;
       numbers = s.numbers.keys;
       reason = s.reason;
+      reported = s.reported.items;
     } };
 }
 
 impl Spare {
     /// For a fact of which nothing is kept beside itself. It takes no memory.
     pub fn none(alloc: Global) -> Spare
-        ensures { result ≡ record { client = []; name = None; id = []; issued = []; told = []; numbers = []; reason = None } }
+        ensures { result ≡ record { client = []; name = None; id = None; issued = []; told = []; numbers = []; reason = None; reported = [] } }
     {
         Spare {
             client: Text::from_string(String::new(alloc)),
             name: None,
-            id: Text::from_string(String::new(alloc)),
+            id: None,
             issued: Items::of(Vec::new(alloc)),
             told: ToldStreams::none(alloc),
             numbers: IndexSet::new(alloc),
             reason: None,
+            reported: VecDeque::new(alloc),
         }
     }
 
     /// For a stream that is made: its client's name, for its count, and its own, for its tokens to share.
     pub fn for_stream(alloc: Global, client: Text, name: SharedName) -> Spare
-        ensures { result ≡ record { client = client; name = Some name; id = []; issued = []; told = []; numbers = []; reason = None } }
+        ensures { result ≡ record { client = client; name = Some name; id = None; issued = []; told = []; numbers = []; reason = None; reported = [] } }
     {
         let mut spare = Spare::none(alloc);
         spare.client = client;
@@ -61,28 +65,33 @@ impl Spare {
         spare
     }
 
-    /// For a publication: its id, for the index, and the tokens that it makes.
-    pub fn for_tokens(alloc: Global, id: Text, issued: Items<KeptToken>) -> Spare
-        ensures { result ≡ record { client = []; name = None; id = id; issued = issued; told = []; numbers = []; reason = None } }
+    /// For a publication: its id, as it is kept, and the tokens that it makes.
+    pub fn for_tokens(alloc: Global, id: PublishId, issued: Items<KeptToken>) -> Spare
+        ensures { result ≡ record { client = []; name = None; id = Some id; issued = issued; told = []; numbers = []; reason = None; reported = [] } }
     {
         let mut spare = Spare::none(alloc);
-        spare.id = id;
+        spare.id = Some(id);
         spare.issued = issued;
         spare
     }
 
-    /// For tokens that are settled: their numbers.
-    pub fn for_numbers(alloc: Global, numbers: IndexSet<u64>) -> Spare
-        ensures { result ≡ record { client = []; name = None; id = []; issued = []; told = []; numbers = numbers.keys; reason = None } }
+    /// For tokens that are settled: their numbers, and what is kept of those that were reported.
+    pub fn for_items(
+        alloc: Global,
+        numbers: IndexSet<u64>,
+        reported: VecDeque<KeptRefusal>,
+    ) -> Spare
+        ensures { result ≡ record { client = []; name = None; id = None; issued = []; told = []; numbers = numbers.keys; reason = None; reported = reported.items } }
     {
         let mut spare = Spare::none(alloc);
         spare.numbers = numbers;
+        spare.reported = reported;
         spare
     }
 
     /// For a status: its reason, for the token that tells it.
     pub fn for_reason(alloc: Global, reason: Option<Text>) -> Spare
-        ensures { result ≡ record { client = []; name = None; id = []; issued = []; told = []; numbers = []; reason = reason } }
+        ensures { result ≡ record { client = []; name = None; id = None; issued = []; told = []; numbers = []; reason = reason; reported = [] } }
     {
         let mut spare = Spare::none(alloc);
         spare.reason = reason;
@@ -99,19 +108,28 @@ impl Spare {
     }
 
     /// The id of a publication, the tokens that it makes, and the streams on which it is due.
-    pub(crate) fn into_tokens(self) -> (Text, Items<KeptToken>, ToldStreams)
-        ensures id { result.0 ≡ self.id }
+    pub(crate) fn into_tokens(self) -> (PublishId, Items<KeptToken>, ToldStreams)
+        requires { is_some self.id ≡ true }
+        ensures id { Some result.0 ≡ self.id }
         ensures issued { result.1 ≡ self.issued }
         ensures told { result.2 ≡ self.told }
     {
-        (self.id, self.issued, self.told)
+        (self.id.unwrap(), self.issued, self.told)
     }
 
-    /// The numbers of tokens that are settled.
-    pub(crate) fn into_numbers(self) -> IndexSet<u64>
-        ensures { result.keys ≡ self.numbers }
+    /// How many reported tokens are kept.
+    pub(crate) fn reported_count(&self) -> usize
+        ensures { result ≡ length self.now.reported }
     {
-        self.numbers
+        self.reported.len()
+    }
+
+    /// The numbers of tokens that are settled, and what is kept of those that were reported.
+    pub(crate) fn into_items(self) -> (IndexSet<u64>, VecDeque<KeptRefusal>)
+        ensures numbers { result.0.keys ≡ self.numbers }
+        ensures reported { result.1.items ≡ self.reported }
+    {
+        (self.numbers, self.reported)
     }
 
     /// The reason of a status.

@@ -15,8 +15,8 @@ use Rattle.sig_system.specs.declared.timing.TheConstants.{LOOK_MILLISECONDS}
 use Rattle.sig_system.specs.declared.tcp_door.TheConstants.{ACCEPT_MILLISECONDS, LACK_MILLISECONDS, LACKING_ACCEPTS}
 use Rattle.sig_system.specs.declared.tcp_side.TheConstants.{DIAL_SECONDS, DIAL_ADDRESSES}
 use Rattle.sig_stream.specs.declared.limits.TheConstants.{AUTHORIZATION_BYTES, ENDPOINT_URL_BYTES}
-use Rattle.sig_history.specs.declared.limits.TheConstants.{SETTING_BYTES, SETTING_ITEMS}
-use Rattle.sig_calls.specs.declared.limits.TheConstants.{WANT_BYTES, WANT_ITEMS}
+use Rattle.sig_history.specs.declared.limits.TheConstants.{CODE_BYTES, REFUSED_KEPT, SETTING_BYTES, SETTING_ITEMS}
+use Rattle.sig_calls.specs.declared.limits.TheConstants.{REFUSED_PER_PAGE, WANT_BYTES, WANT_ITEMS}
 use Rattle.sig_journal.specs.declared.layout.TheConstants.{GATE_OPEN, MAGIC, VERSION, HEADER_BYTES, STORE_ID_BYTES, RECORD_HEAD_BYTES}
 
 -- the sizes of HTTP messages
@@ -81,6 +81,9 @@ pub record StreamFigures : Type 0 where
   pub want_items : WANT_ITEMS ≡ 655360
   pub setting_bytes : SETTING_BYTES ≡ 2 ^ 28
   pub setting_items : SETTING_ITEMS ≡ 2 ^ 28
+  pub refused : REFUSED_KEPT ≡ 10000
+  pub refused_page : REFUSED_PER_PAGE ≡ 100
+  pub code : CODE_BYTES ≡ 64
 
 -- what settings, scripts and pages of rows may have
 pub record SettingFigures : Type 0 where

@@ -30,7 +30,8 @@ pub fn tokens_have_these_figures()
 /// A client has at most 16 streams and a name of at most 32 characters, a page at most 32 tokens, and two verifications of a
 /// stream may have to be 86,400 seconds apart at most. The URL of a push endpoint that is wanted has at most 2,048 bytes, and
 /// its authorization 8,192. What a request wants of a stream has at most 655,360 bytes and as many items; what a fact sets of
-/// one has at most 2^28 of each.
+/// one has at most 2^28 of each. The last 10,000 tokens that were reported as faulty are kept, with codes of at most 64 bytes,
+/// and a page of them has at most 100.
 pub fn streams_have_these_figures()
     ensures { StreamFigures }
 {}

@@ -19,14 +19,14 @@ use Rattle.sig_ledger.specs.Room.{HasRoom, Ready, Rooms}
 use Rattle.sig_ledger.specs.Steps.{reply_in}
 use Rattle.sig_outbox.specs.State.{IsReady}
 
-ready_where : (sum : Sum) (room : Rooms) (o : Option Ready) → IfSome (option_map (λ (r : Ready). r.fact) o) (Fits sum) → IfSome o (HasRoom sum.parts room)
+ready_where : (sum : Sum) (room : Rooms) (o : Option Ready) → IfSome (option_map (λ (r : Ready). r.fact) o) (Fits sum) → IfSome o (HasRoom sum room)
     → IsReady (record { sum = sum; room = room }) o
 ready_where sum room None fits space = tt
 ready_where sum room (Some r) fits space = (fits, space)
 
 pub ready_from : (rules : Rules) (sum : Sum) (room : Rooms) (call : Call) (now : ℕ) (result : Result Step PrepareFault) → IsWhole sum
     → Answers Memory (result_map reply_in result) (prepared_of rules sum call now)
-    → IfOk result (λ (step : Step). IfSome step.change (HasRoom sum.parts room))
+    → IfOk result (λ (step : Step). IfSome step.change (HasRoom sum room))
     → IfOk result (λ (step : Step). IsProperRules rules → IsProperCall call → IsReady (record { sum = sum; room = room }) step.change)
 ready_from rules sum room call now (Err e) whole answers space = tt
 ready_from rules sum room call now (Ok step) whole answers space = λ proper called.
@@ -35,7 +35,7 @@ ready_from rules sum room call now (Ok step) whole answers space = λ proper cal
 -- and over books that stay as they were
 pub ready_over : (rules : Rules) (old new : Books) (room : Rooms) (call : Call) (now : ℕ) (result : Result Step PrepareFault) → new ≡ old → AreKept old
     → Answers Memory (result_map reply_in result) (prepared_of rules (sum_in old) call now)
-    → IfOk result (λ (step : Step). IfSome step.change (HasRoom (sum_in new).parts room))
+    → IfOk result (λ (step : Step). IfSome step.change (HasRoom (sum_in new) room))
     → IfOk result (λ (step : Step). IsProperRules rules → IsProperCall call → IsReady (record { sum = sum_in new; room = room }) step.change)
 ready_over rules old new room call now result same kept answers space =
     ready_from rules (sum_in new) room call now result (subst (λ (b : Books). IsWhole (sum_in b)) (sym same) kept.whole)

@@ -1,6 +1,6 @@
 -- The kinds of calls, each answered by its own part of the code.
 use Rattle.sig_terms.specs.declared.call.Call.{Call}
-use Rattle.sig_terms.specs.declared.call.Call.TheVariants.{Add, Create, Delete, Deliver, Figures, GetStatus, Hand, Metadata, OperatorDelete, OperatorStatus, Patch, Poll, Publish, Put, Read, ReadAll, Remove, SetStatus, Settle, Streams, Verify}
+use Rattle.sig_terms.specs.declared.call.Call.TheVariants.{Add, Create, Delete, Deliver, Figures, GetStatus, Hand, Metadata, OperatorDelete, OperatorStatus, Patch, Poll, Publish, Put, Read, ReadAll, Remove, SetStatus, Settle, Streams, Refused, Verify}
 
 -- what the transmitter offers; configurations of streams; their statuses and subjects; tokens; what the operator sees of all
 -- streams
@@ -29,6 +29,7 @@ kind_of (Publish id news) = Telling
 kind_of (OperatorStatus stream status reason) = Telling
 kind_of (OperatorDelete stream) = Overseeing
 kind_of (Streams from) = Overseeing
+kind_of (Refused from) = Overseeing
 kind_of Figures = Overseeing
 kind_of (Deliver stream) = Telling
 kind_of (Hand streams) = Telling

@@ -14,7 +14,7 @@ pub record State : Type 0 where
 -- a fact that fits, and for which there is room
 abbrev pub IsReady : State → Option Ready → Type 0
 IsReady s None = Unit {0}
-IsReady s (Some r) = Fits s.sum r.fact × HasRoom s.sum.parts s.room r
+IsReady s (Some r) = Fits s.sum r.fact × HasRoom s.sum s.room r
 
 -- a fact is taken in where it fits
 abbrev pub taken_where : Bool → Result ⊤ ApplyFault

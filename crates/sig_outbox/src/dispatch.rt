@@ -10,8 +10,8 @@ ghost use Rattle.sig_outbox.specs.Kinds.{Configuring, Overseeing, Steering, Tell
 
 use sig_ledger::{Ledger, Step};
 use sig_stream_calls::{
-    add, create, delete, figures, get_status, operator_delete, patch, put, read, read_all, remove,
-    set_status, streams,
+    add, create, delete, figures, get_status, operator_delete, patch, put, read, read_all, refused,
+    remove, set_status, streams,
 };
 use sig_terms::{Answer, Call, PrepareFault, Rules};
 use sig_token_calls::{deliver, hand, operator_status, poll, publish, settle, verify};
@@ -26,7 +26,7 @@ pub(crate) fn dispatch(
 ) -> Result<Step, PrepareFault>
     ensures keeps { ledger.new.books ≡ ledger.old.books }
     ensures answers { Answers PrepareFault.Memory (result_map reply_in result) (prepared_of rules.now (sum_in ledger.old.books) call.now now) }
-    ensures room { IfOk result (λ step. IfSome step.change (HasRoom (sum_in ledger.new.books).parts ledger.new.room)) }
+    ensures room { IfOk result (λ step. IfSome step.change (HasRoom (sum_in ledger.new.books) ledger.new.room)) }
 {
     match call {
         Call::Metadata => Ok(Step::only(Answer::Meta)),
@@ -45,7 +45,8 @@ pub(crate) fn dispatch(
         | Call::Deliver { .. }
         | Call::Hand { .. }
         | Call::Settle { .. } => tell(ledger, call, now),
-        Call::OperatorDelete { .. } | Call::Streams { .. } | Call::Figures => oversee(ledger, call),
+        Call::OperatorDelete { .. } | Call::Streams { .. } | Call::Refused { .. } | Call::Figures =>
+            oversee(ledger, call),
     }
 }
 
@@ -55,11 +56,12 @@ fn oversee(ledger: &mut Ledger, call: &Call) -> Result<Step, PrepareFault>
     requires { kind_of call.now ≡ Overseeing }
     ensures keeps { ledger.new.books ≡ ledger.old.books }
     ensures answers { (rules : Rules) (now : ℕ) → Answers PrepareFault.Memory (result_map reply_in result) (prepared_of rules (sum_in ledger.old.books) call.now now) }
-    ensures room { IfOk result (λ step. IfSome step.change (HasRoom (sum_in ledger.new.books).parts ledger.new.room)) }
+    ensures room { IfOk result (λ step. IfSome step.change (HasRoom (sum_in ledger.new.books) ledger.new.room)) }
 {
     match call {
         Call::OperatorDelete { stream } => operator_delete(ledger, stream),
         Call::Streams { from } => streams(ledger, *from),
+        Call::Refused { from } => refused(ledger, *from),
         Call::Figures => figures(ledger),
         _ => unreachable!(),
     }
@@ -76,7 +78,7 @@ fn configure(
     requires { kind_of call.now ≡ Configuring }
     ensures keeps { ledger.new.books ≡ ledger.old.books }
     ensures answers { Answers PrepareFault.Memory (result_map reply_in result) (prepared_of rules.now (sum_in ledger.old.books) call.now now) }
-    ensures room { IfOk result (λ step. IfSome step.change (HasRoom (sum_in ledger.new.books).parts ledger.new.room)) }
+    ensures room { IfOk result (λ step. IfSome step.change (HasRoom (sum_in ledger.new.books) ledger.new.room)) }
 {
     match call {
         Call::Create { client, want } => create(ledger, rules, client, want, now),
@@ -103,7 +105,7 @@ fn steer(ledger: &mut Ledger, call: &Call, now: u64) -> Result<Step, PrepareFaul
     requires { kind_of call.now ≡ Steering }
     ensures keeps { ledger.new.books ≡ ledger.old.books }
     ensures answers { (rules : Rules) → Answers PrepareFault.Memory (result_map reply_in result) (prepared_of rules (sum_in ledger.old.books) call.now now) }
-    ensures room { IfOk result (λ step. IfSome step.change (HasRoom (sum_in ledger.new.books).parts ledger.new.room)) }
+    ensures room { IfOk result (λ step. IfSome step.change (HasRoom (sum_in ledger.new.books) ledger.new.room)) }
 {
     match call {
         Call::GetStatus { client, stream } => get_status(ledger, client, stream),
@@ -133,7 +135,7 @@ fn tell(ledger: &mut Ledger, call: &Call, now: u64) -> Result<Step, PrepareFault
     requires { kind_of call.now ≡ Telling }
     ensures keeps { ledger.new.books ≡ ledger.old.books }
     ensures answers { (rules : Rules) → Answers PrepareFault.Memory (result_map reply_in result) (prepared_of rules (sum_in ledger.old.books) call.now now) }
-    ensures room { IfOk result (λ step. IfSome step.change (HasRoom (sum_in ledger.new.books).parts ledger.new.room)) }
+    ensures room { IfOk result (λ step. IfSome step.change (HasRoom (sum_in ledger.new.books) ledger.new.room)) }
 {
     match call {
         Call::Verify {

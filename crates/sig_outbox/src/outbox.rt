@@ -1,8 +1,9 @@
-ghost use Rattle.std.specs.Prelude.{◌≡◌, ◌↔◌, [], ◌∷◌, IfOk, IsTrue, OnErr, OnOk, length, map, option_map, is_some};
+ghost use Rattle.std.specs.Prelude.{◌≡◌, ◌↔◌, ◌-◌, ◌^◌, [], ◌∷◌, IfOk, IsTrue, OnErr, OnOk, length, map, min, option_map, is_some};
 ghost use Rattle.sig_json.specs.Answers.{Answers, result_map};
 
 use crate::applying::{ApplyFault, take_in};
 use crate::dispatch::dispatch;
+use crate::totals::owed_together;
 use sig_json::{Memory, Text};
 use sig_ledger::{Ledger, Prepared, Step};
 use sig_terms::{Call, Fact, PrepareFault, Rules};
@@ -37,6 +38,7 @@ impl Outbox {
     ghost use Rattle.sig_ledger.specs.Room.{HasRoom};
     ghost use Rattle.sig_ledger.specs.Steps.{reply_in};
     ghost use Rattle.sig_outbox.specs.State.{IsReady, taken_where};
+    ghost use Rattle.sig_outbox.specs.Totals.{owed_in_all};
 
     /// A new store's: no stream stands. It takes no memory.
     pub fn new(alloc: Global, store_id: [u8; 16]) -> Outbox
@@ -63,7 +65,7 @@ impl Outbox {
     /// Takes in the fact that was prepared last. It takes no memory.
     pub fn commit(&mut self, prepared: Prepared)
         requires fits { Fits self.old.sum prepared.fact }
-        requires room { HasRoom self.old.sum.parts self.old.room prepared }
+        requires room { HasRoom self.old.sum self.old.room prepared }
         ensures { self.new.sum ≡ sum_of self.old.sum (prepared.fact ∷ []) }
     {
         self.ledger.commit(prepared);
@@ -100,6 +102,13 @@ impl Outbox {
         ensures { result ≡ owed_count self.now.sum stream.now }
     {
         self.ledger.owed(stream)
+    }
+
+    /// How many tokens all streams owe together, or 2^64 - 1 where they are more. It takes no memory.
+    pub fn owed_in_all(&self) -> u64
+        ensures { result ≡ min (owed_in_all self.now.sum) (2 ^ 64 - 1) }
+    {
+        owed_together(self.ledger.accounts())
     }
 
     /// How many streams stand.

@@ -6,3 +6,4 @@ pub mod KeptLemmas
 pub mod NameLemmas
 pub mod OwedStepLemmas
 pub mod OthersLemmas
+pub mod ReportedLemmas

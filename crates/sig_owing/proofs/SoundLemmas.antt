@@ -9,6 +9,7 @@ use Rattle.sig_history.specs.Streams.{Stream, Count, Publication, Parts, Made, i
 use Rattle.sig_history.specs.Facts.{made_by}
 use Rattle.sig_history.specs.Owed.{Sum, empty_sum, owed_after, owed_by, owed_in, sum_of, survives}
 use Rattle.sig_history.specs.Sound.{Fits, are_owed, each_once, is_fitting, is_sound, may_be_made}
+use Rattle.sig_history.specs.Refused.{Refusals}
 use Rattle.sig_history.specs.Standings.{Standing, owed_in_standing, stream_in, sum_with}
 use Rattle.sig_history.specs.Whole.{AreWhole, IsRising, IsWhole}
 use Rattle.sig_owing.specs.Laws.{OwedNumbersRise, SoundHistoriesAreWhole, SoundHistoriesJoin, StreamsAreSorted}
@@ -79,16 +80,16 @@ sound_more base facts f sound fits =
 
 -- ---- what sound histories come to is whole
 
-unchanged_with : (sid : List ℕ) (ss : List Standing) (created : List Count) (published : List Publication)
-    → IsWhole (sum_with sid ss created published) → sum_of (sum_with sid ss created published) [] ≡ sum_with sid ss created published
-unchanged_with sid ss created published whole =
-    let base : Sum = sum_with sid ss created published in
+unchanged_with : (sid : List ℕ) (ss : List Standing) (created : List Count) (published : List Publication) (refused : Refusals)
+    → IsWhole (sum_with sid ss created published refused) → sum_of (sum_with sid ss created published refused) [] ≡ sum_with sid ss created published refused
+unchanged_with sid ss created published refused whole =
+    let base : Sum = sum_with sid ss created published refused in
     let each : Each (λ s. owed_after base [] (name_of s) ≡ s.owed) ss =
     each_and (λ s. stands (name_of s) (map stream_in ss) ≡ true) (λ s. owed_in (name_of s) (map stream_in ss) (map owed_in_standing ss) ≡ s.owed)
     (λ s. owed_after base [] (name_of s) ≡ s.owed)
     (λ s here own. owed_still base (name_of s) here ∙ own) ss (all_stand ss)
     (all_own ss (whole_distinct sid created (map stream_in ss) (map owed_in_standing ss) whole)) in
-    ap (λ (l : List (List Made)). record { parts = base.parts; owed = l })
+    ap (λ (l : List (List Made)). record { parts = base.parts; owed = l; refused = refused })
     (map-map (λ (s : Stream). owed_after base [] s.conf.stream) stream_in ss
     ∙ map_each (λ s. owed_after base [] (name_of s)) owed_in_standing ss each)
 
@@ -97,7 +98,7 @@ pub unchanged : (sum : Sum) → IsWhole sum → sum_of sum [] ≡ sum
 unchanged sum whole =
     let p : Parts = sum.parts in
     subst (λ s. IsWhole s → sum_of s [] ≡ s) (whole_with sum whole)
-    (unchanged_with p.store_id (standings_of p.streams sum.owed) p.created p.published) whole
+    (unchanged_with p.store_id (standings_of p.streams sum.owed) p.created p.published sum.refused) whole
 
 pub sound_whole : SoundHistoriesAreWhole
 sound_whole base [] whole sound = subst IsWhole (sym (unchanged base whole)) whole

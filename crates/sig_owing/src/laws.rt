@@ -1,6 +1,7 @@
 //! Laws over the definitions: each function's contract is the law, and nothing calls it.
 
 ghost use Rattle.sig_history.specs.Changes.{ConfiguringSetsWhatItSays, FactsLeaveOthers, ListingDecidesWhatIsDue, ListingPutsOn, StatusDecidesWhatIsOffered, StatusIsSet, UnlistingTakesOff};
+ghost use Rattle.sig_owing.specs.Reported.{RefusedWereReported};
 ghost use Rattle.sig_owing.specs.Laws.{AskingAddsAVerification, DeletingLeavesNothing, DisablingLeavesItsOwnNotice, HistoriesJoin, NamesAreUsedOnce, OwedNumbersRise, OwesWhatIsLeft, PausingKeepsWhatIsOwed, PublishingAddsWhereDue, SettlingTakesOffTheNamed, SoundHistoriesAreWhole, SoundHistoriesJoin, StreamsAreSorted};
 
 /// A history may be taken up where an earlier part of it ended: the sum of both parts is that of the second over that of
@@ -70,6 +71,12 @@ pub fn pausing_keeps_what_is_owed()
 /// Framework 1.0, sections 8.1.2 and 8.1.5).
 pub fn disabling_leaves_its_own_notice()
     ensures { DisablingLeavesItsOwnNotice }
+{}
+
+/// Each token that a sound history over a new store keeps as reported was made, and was owed when a fact settled it with the code
+/// that is kept (RFC 8935, section 2.3; RFC 8936, section 2.4).
+pub fn refused_were_reported()
+    ensures { RefusedWereReported }
 {}
 
 /// The name of a stream that was deleted stands no more and owes nothing (Shared Signals Framework 1.0, section 8.1.1).

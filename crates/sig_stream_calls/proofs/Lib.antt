@@ -1,3 +1,4 @@
 pub mod FoundLemmas
 pub mod StandingLemmas
 pub mod SettingsLemmas
+pub mod RefusingLemmas

@@ -188,7 +188,7 @@ pub fn patch(
 ) -> Result<Step, PrepareFault>
     ensures keeps { ledger.new.books ≡ ledger.old.books }
     ensures answers { Answers PrepareFault.Memory (result_map reply_in result) (outcome (table.patching (sum_in ledger.old.books).parts client.now stream.now want.now)) }
-    ensures room { IfOk result (λ step. IfSome step.change (HasRoom (sum_in ledger.new.books).parts ledger.new.room)) }
+    ensures room { IfOk result (λ step. IfSome step.change (HasRoom (sum_in ledger.new.books) ledger.new.room)) }
 {
     let account = ledger.client_account(client, stream);
     let turn = configure(ledger.alloc(), account, stream, Unnamed::Stays, want)?;
@@ -204,7 +204,7 @@ pub fn put(
 ) -> Result<Step, PrepareFault>
     ensures keeps { ledger.new.books ≡ ledger.old.books }
     ensures answers { Answers PrepareFault.Memory (result_map reply_in result) (outcome (table.putting (sum_in ledger.old.books).parts client.now stream.now want.now)) }
-    ensures room { IfOk result (λ step. IfSome step.change (HasRoom (sum_in ledger.new.books).parts ledger.new.room)) }
+    ensures room { IfOk result (λ step. IfSome step.change (HasRoom (sum_in ledger.new.books) ledger.new.room)) }
 {
     let account = ledger.client_account(client, stream);
     let turn = configure(ledger.alloc(), account, stream, Unnamed::TakesDefault, want)?;
@@ -215,7 +215,7 @@ pub fn put(
 pub fn delete(ledger: &mut Ledger, client: &Text, stream: &Text) -> Result<Step, PrepareFault>
     ensures keeps { ledger.new.books ≡ ledger.old.books }
     ensures answers { Answers PrepareFault.Memory (result_map reply_in result) (outcome (table.deleting (sum_in ledger.old.books).parts client.now stream.now)) }
-    ensures room { IfOk result (λ step. IfSome step.change (HasRoom (sum_in ledger.new.books).parts ledger.new.room)) }
+    ensures room { IfOk result (λ step. IfSome step.change (HasRoom (sum_in ledger.new.books) ledger.new.room)) }
 {
     let turn = delete_turn(
         ledger.alloc(),

@@ -79,7 +79,7 @@ fn create_for(
     ensures keeps { ledger.new.books ≡ ledger.old.books }
     ensures answers { Answers PrepareFault.Memory (result_map reply_in result)
         (outcome (table.created_for rules.now (sum_in ledger.old.books).parts want.now now (Some client.now))) }
-    ensures room { IfOk result (λ step. IfSome step.change (HasRoom (sum_in ledger.new.books).parts ledger.new.room)) }
+    ensures room { IfOk result (λ step. IfSome step.change (HasRoom (sum_in ledger.new.books) ledger.new.room)) }
 {
     if STREAMS_PER_CLIENT <= ledger.streams_of(&client.name) {
         return Ok(Step::only(Answer::TooMany));
@@ -107,7 +107,7 @@ pub fn create(
     ensures keeps { ledger.new.books ≡ ledger.old.books }
     ensures answers { Answers PrepareFault.Memory (result_map reply_in result)
         (outcome (table.creating rules.now (sum_in ledger.old.books).parts client.now want.now now)) }
-    ensures room { IfOk result (λ step. IfSome step.change (HasRoom (sum_in ledger.new.books).parts ledger.new.room)) }
+    ensures room { IfOk result (λ step. IfSome step.change (HasRoom (sum_in ledger.new.books) ledger.new.room)) }
 {
     match client_named(rules.clients.as_slice(), client) {
         None => Ok(Step::only(Answer::NotFound)),

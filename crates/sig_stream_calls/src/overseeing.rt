@@ -73,7 +73,7 @@ fn count_of(publications: &[Publication]) -> u64
 pub fn streams(ledger: &mut Ledger, from: u64) -> Result<Step, PrepareFault>
     ensures keeps { ledger.new.books ≡ ledger.old.books }
     ensures answers { Answers PrepareFault.Memory (result_map reply_in result) (outcome (table.listing (sum_in ledger.old.books) from)) }
-    ensures room { IfOk result (λ step. IfSome step.change (HasRoom (sum_in ledger.new.books).parts ledger.new.room)) }
+    ensures room { IfOk result (λ step. IfSome step.change (HasRoom (sum_in ledger.new.books) ledger.new.room)) }
 {
     let accounts = ledger.accounts();
     let next = place_behind(accounts, from);
@@ -86,7 +86,7 @@ pub fn streams(ledger: &mut Ledger, from: u64) -> Result<Step, PrepareFault>
 pub fn figures(ledger: &mut Ledger) -> Result<Step, PrepareFault>
     ensures keeps { ledger.new.books ≡ ledger.old.books }
     ensures answers { Answers PrepareFault.Memory (result_map reply_in result) (outcome (table.figuring (sum_in ledger.old.books))) }
-    ensures room { IfOk result (λ step. IfSome step.change (HasRoom (sum_in ledger.new.books).parts ledger.new.room)) }
+    ensures room { IfOk result (λ step. IfSome step.change (HasRoom (sum_in ledger.new.books) ledger.new.room)) }
 {
     let publications = count_of(ledger.published());
     let standings = standings_of(ledger.alloc(), ledger.accounts())?;
@@ -103,7 +103,7 @@ pub fn figures(ledger: &mut Ledger) -> Result<Step, PrepareFault>
 pub fn operator_delete(ledger: &mut Ledger, stream: &Text) -> Result<Step, PrepareFault>
     ensures keeps { ledger.new.books ≡ ledger.old.books }
     ensures answers { Answers PrepareFault.Memory (result_map reply_in result) (outcome (table.dropping (sum_in ledger.old.books).parts stream.now)) }
-    ensures room { IfOk result (λ step. IfSome step.change (HasRoom (sum_in ledger.new.books).parts ledger.new.room)) }
+    ensures room { IfOk result (λ step. IfSome step.change (HasRoom (sum_in ledger.new.books) ledger.new.room)) }
 {
     let turn = delete_turn(ledger.alloc(), ledger.account(stream.as_str()), stream)?;
     finish(ledger, turn)

@@ -49,7 +49,7 @@ fn conf_turn(alloc: Global, account: Option<&Account>) -> Result<Turn, Memory>
 pub fn read_all(ledger: &mut Ledger, client: &Text) -> Result<Step, PrepareFault>
     ensures keeps { ledger.new.books ≡ ledger.old.books }
     ensures answers { Answers PrepareFault.Memory (result_map reply_in result) (outcome (table.reading_all (sum_in ledger.old.books).parts client.now)) }
-    ensures room { IfOk result (λ step. IfSome step.change (HasRoom (sum_in ledger.new.books).parts ledger.new.room)) }
+    ensures room { IfOk result (λ step. IfSome step.change (HasRoom (sum_in ledger.new.books) ledger.new.room)) }
 {
     let confs = confs_of(ledger.alloc(), ledger.accounts(), client)?;
     finish(ledger, Turn::only(Answer::Confs { confs }))
@@ -59,7 +59,7 @@ pub fn read_all(ledger: &mut Ledger, client: &Text) -> Result<Step, PrepareFault
 pub fn read(ledger: &mut Ledger, client: &Text, stream: &Text) -> Result<Step, PrepareFault>
     ensures keeps { ledger.new.books ≡ ledger.old.books }
     ensures answers { Answers PrepareFault.Memory (result_map reply_in result) (outcome (table.reading (sum_in ledger.old.books).parts client.now stream.now)) }
-    ensures room { IfOk result (λ step. IfSome step.change (HasRoom (sum_in ledger.new.books).parts ledger.new.room)) }
+    ensures room { IfOk result (λ step. IfSome step.change (HasRoom (sum_in ledger.new.books) ledger.new.room)) }
 {
     let turn = conf_turn(ledger.alloc(), ledger.client_account(client, stream))?;
     finish(ledger, turn)

@@ -98,7 +98,7 @@ pub fn add(
 ) -> Result<Step, PrepareFault>
     ensures keeps { ledger.new.books ≡ ledger.old.books }
     ensures answers { Answers PrepareFault.Memory (result_map reply_in result) (outcome (table.adding (sum_in ledger.old.books).parts client.now stream.now subject.now)) }
-    ensures room { IfOk result (λ step. IfSome step.change (HasRoom (sum_in ledger.new.books).parts ledger.new.room)) }
+    ensures room { IfOk result (λ step. IfSome step.change (HasRoom (sum_in ledger.new.books) ledger.new.room)) }
 {
     let account = ledger.client_account(client, stream);
     let turn = add_turn(ledger.alloc(), account, stream, subject)?;
@@ -114,7 +114,7 @@ pub fn remove(
 ) -> Result<Step, PrepareFault>
     ensures keeps { ledger.new.books ≡ ledger.old.books }
     ensures answers { Answers PrepareFault.Memory (result_map reply_in result) (outcome (table.removing (sum_in ledger.old.books).parts client.now stream.now subject.now)) }
-    ensures room { IfOk result (λ step. IfSome step.change (HasRoom (sum_in ledger.new.books).parts ledger.new.room)) }
+    ensures room { IfOk result (λ step. IfSome step.change (HasRoom (sum_in ledger.new.books) ledger.new.room)) }
 {
     let account = ledger.client_account(client, stream);
     let turn = remove_turn(ledger.alloc(), account, stream, subject)?;

@@ -43,7 +43,7 @@ impl Turn {
 pub(crate) fn finish(ledger: &mut Ledger, turn: Turn) -> Result<Step, PrepareFault>
     ensures keeps { ledger.new.books ≡ ledger.old.books }
     ensures answers { Answers PrepareFault.Memory (result_map reply_in result) (outcome (with_change turn.answer turn.change)) }
-    ensures room { IfOk result (λ step. IfSome step.change (HasRoom (sum_in ledger.new.books).parts ledger.new.room)) }
+    ensures room { IfOk result (λ step. IfSome step.change (HasRoom (sum_in ledger.new.books) ledger.new.room)) }
 {
     let step = ledger.step(turn.answer, turn.change)?;
     Ok(step)

@@ -2,7 +2,7 @@ ghost use Rattle.std.specs.Prelude.{◌≡◌, IfOk};
 
 use crate::comparing::{same_member, same_variant};
 use crate::copying::{copy_one, copy_one_with, copy_variant};
-use crate::{Issued, Standing, StreamConf, Token};
+use crate::{Issued, RefusedToken, Standing, StreamConf, Token};
 use sig_event::Status;
 use sig_json::{Copied, Items, Memory, Same, Text, copy_items};
 use std::alloc::Global;
@@ -70,6 +70,14 @@ pub enum Answer {
         next: u64,
         /// How each one stands, in order of client name and number; at most 100.
         standings: Items<Standing>,
+    },
+    /// A page of the tokens that receivers reported as faulty.
+    Refused {
+        /// The place behind the last one that is told, among all that were ever reported; where
+        /// none is told, the place behind the last of all.
+        next: u64,
+        /// The tokens, in the order in which they were reported; at most 100.
+        tokens: Items<RefusedToken>,
     },
     /// The figures of the whole transmitter.
     Figures {
@@ -146,6 +154,7 @@ impl Drop for Answer {
                 tokens,
             } => drop(tokens),
             Answer::Standings { next: _, standings } => drop(standings),
+            Answer::Refused { next: _, tokens } => drop(tokens),
             Answer::Figures {
                 publications: _,
                 standings,
@@ -172,6 +181,7 @@ impl Answer {
             Sets: copy_items(tokens) plain(more),
             Published: copy_items(tokens) plain(store_id),
             Standings: copy_items(standings) plain(next),
+            Refused: copy_items(tokens) plain(next),
             Figures: copy_items(standings) plain(publications),
             Delivering: copy_one(stream),
             Handed: copy_items(tokens),
@@ -197,6 +207,7 @@ impl Same for Answer {
             Sets { tokens ~ sent, more == further },
             Published { store_id == store, tokens ~ made },
             Standings { next ~ behind, standings ~ told },
+            Refused { next ~ behind, tokens ~ told },
             Figures { publications ~ many, standings ~ told },
             Delivering { stream ~ name },
             Handed { tokens ~ given },

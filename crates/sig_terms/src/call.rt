@@ -136,6 +136,12 @@ pub enum Call {
         /// The place of the first one among all streams, in order of client name and number, from 0.
         from: u64,
     },
+    /// The operator reads which tokens receivers reported as faulty, a page at a time (RFC 8935,
+    /// section 2.3; RFC 8936, section 2.4).
+    Refused {
+        /// The place of the first one among all that were ever reported, in order, from 0.
+        from: u64,
+    },
     /// The operator reads the figures of the whole transmitter.
     Figures,
     /// The operator asks for a round of pushes of a stream.
@@ -257,7 +263,7 @@ impl Drop for Call {
                 drop(reason);
             }
             Call::OperatorDelete { stream } => drop(stream),
-            Call::Streams { from: _ } | Call::Figures => {}
+            Call::Streams { from: _ } | Call::Refused { from: _ } | Call::Figures => {}
             Call::Deliver { stream } => drop(stream),
             Call::Hand { streams } => drop(streams),
             Call::Settle {
@@ -313,7 +319,7 @@ impl Call {
     {
         copy_variant!(self, alloc, Call {
             Metadata, Figures;
-            Streams { from };
+            Streams { from }, Refused { from };
             Create: copy_two(client, want),
             ReadAll: copy_one(client),
             Read: copy_two(client, stream),
@@ -362,6 +368,7 @@ impl Same for Call {
             OperatorStatus { stream ~ name, status ~ state, reason ~ why },
             OperatorDelete { stream ~ name },
             Streams { from ~ place },
+            Refused { from ~ place },
             Deliver { stream ~ name },
             Hand { streams ~ names },
             Settle { stream ~ name, number ~ place, outcome ~ end },

@@ -2,7 +2,7 @@
 
 use crate::{
     Answer, Call, Client, Defaults, Delivery, Endpoint, Fact, Issued, Outcome, PollAsk,
-    PrepareFault, Reported, Rules, SettledItem, Standing, StreamConf, Token, Want,
+    PrepareFault, RefusedToken, Reported, Rules, SettledItem, Standing, StreamConf, Token, Want,
 };
 use sig_json::crosses_threads;
 
@@ -18,6 +18,7 @@ fn types_cross() {
     crosses_threads::<Outcome>();
     crosses_threads::<PollAsk>();
     crosses_threads::<PrepareFault>();
+    crosses_threads::<RefusedToken>();
     crosses_threads::<Reported>();
     crosses_threads::<Rules>();
     crosses_threads::<SettledItem>();

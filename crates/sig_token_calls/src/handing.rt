@@ -23,7 +23,7 @@ use std::alloc::Global;
 pub fn deliver(ledger: &Ledger, stream: &Text) -> Result<Step, PrepareFault>
     ensures answers { Answers PrepareFault.Memory (result_map reply_in result)
         (outcome (table.delivering (sum_in ledger.now.books).parts stream.now)) }
-    ensures room { IfOk result (λ step. IfSome step.change (HasRoom (sum_in ledger.now.books).parts ledger.now.room)) }
+    ensures room { IfOk result (λ step. IfSome step.change (HasRoom (sum_in ledger.now.books) ledger.now.room)) }
 {
     match ledger.account(stream.as_str()) {
         None => Ok(Step::only(Answer::NotFound)),
@@ -105,7 +105,7 @@ fn handed(ledger: &Ledger, streams: &[Text]) -> Result<Items<Token>, Memory>
 pub fn hand(ledger: &Ledger, streams: &[Text]) -> Result<Step, PrepareFault>
     ensures answers { Answers PrepareFault.Memory (result_map reply_in result)
         (outcome (table.handing (sum_in ledger.now.books) streams.now)) }
-    ensures room { IfOk result (λ step. IfSome step.change (HasRoom (sum_in ledger.now.books).parts ledger.now.room)) }
+    ensures room { IfOk result (λ step. IfSome step.change (HasRoom (sum_in ledger.now.books) ledger.now.room)) }
 {
     let tokens = handed(ledger, streams)?;
     Ok(Step::only(Answer::Handed { tokens }))

@@ -66,7 +66,7 @@ pub fn make(ledger: &mut Ledger, answer: Answer, fact: Fact) -> Result<Step, Pre
     ensures keeps { ledger.new.books ≡ ledger.old.books }
     ensures answers { Answers PrepareFault.Memory (result_map reply_in result)
         (outcome (making (sum_in ledger.old.books).parts answer fact)) }
-    ensures room { IfOk result (λ step. IfSome step.change (HasRoom (sum_in ledger.new.books).parts ledger.new.room)) }
+    ensures room { IfOk result (λ step. IfSome step.change (HasRoom (sum_in ledger.new.books) ledger.new.room)) }
 {
     let addressed = ledger.address(fact)?;
     make_told(ledger, answer, addressed)
@@ -82,7 +82,7 @@ pub(crate) fn make_told(
     ensures keeps { ledger.new.books ≡ ledger.old.books }
     ensures answers { Answers PrepareFault.Memory (result_map reply_in result)
         (outcome (making (sum_in ledger.old.books).parts answer addressed.fact)) }
-    ensures room { IfOk result (λ step. IfSome step.change (HasRoom (sum_in ledger.new.books).parts ledger.new.room)) }
+    ensures room { IfOk result (λ step. IfSome step.change (HasRoom (sum_in ledger.new.books) ledger.new.room)) }
 {
     let Ok(size) = largest_payload(ledger, &addressed) else {
         drop(addressed);

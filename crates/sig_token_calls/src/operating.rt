@@ -87,7 +87,7 @@ fn set(
     ensures answers { Answers PrepareFault.Memory (result_map reply_in result)
         (outcome (making (sum_in ledger.old.books).parts (answer.State stream.now status reason.now (Some number))
         (fact.StatusSet stream.now status reason.now true now))) }
-    ensures room { IfOk result (λ step. IfSome step.change (HasRoom (sum_in ledger.new.books).parts ledger.new.room)) }
+    ensures room { IfOk result (λ step. IfSome step.change (HasRoom (sum_in ledger.new.books) ledger.new.room)) }
 {
     let alloc = ledger.alloc();
     let answer = new_state(alloc, stream, status, reason, number)?;
@@ -109,7 +109,7 @@ pub fn operator_status(
     ensures keeps { ledger.new.books ≡ ledger.old.books }
     ensures answers { Answers PrepareFault.Memory (result_map reply_in result)
         (outcome (table.operating (sum_in ledger.old.books).parts stream.now status reason.now now)) }
-    ensures room { IfOk result (λ step. IfSome step.change (HasRoom (sum_in ledger.new.books).parts ledger.new.room)) }
+    ensures room { IfOk result (λ step. IfSome step.change (HasRoom (sum_in ledger.new.books) ledger.new.room)) }
 {
     match ledger.account(stream.as_str()) {
         None => Ok(Step::only(Answer::NotFound)),

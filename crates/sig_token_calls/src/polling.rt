@@ -127,7 +127,7 @@ pub fn poll(
     ensures keeps { ledger.new.books ≡ ledger.old.books }
     ensures answers { Answers PrepareFault.Memory (result_map reply_in result)
         (outcome (table.polling (sum_in ledger.old.books) client.now stream.now ask.now)) }
-    ensures room { IfOk result (λ step. IfSome step.change (HasRoom (sum_in ledger.new.books).parts ledger.new.room)) }
+    ensures room { IfOk result (λ step. IfSome step.change (HasRoom (sum_in ledger.new.books) ledger.new.room)) }
 {
     let reply = polled(ledger, client, stream, ask)?;
     let step = ledger.step(reply.answer, reply.change)?;

@@ -67,7 +67,7 @@ fn publish_first(
     ensures keeps { ledger.new.books ≡ ledger.old.books }
     ensures answers { Answers PrepareFault.Memory (result_map reply_in result)
         (outcome (table.published_after (sum_in ledger.old.books).parts id.now news.now now None)) }
-    ensures room { IfOk result (λ step. IfSome step.change (HasRoom (sum_in ledger.new.books).parts ledger.new.room)) }
+    ensures room { IfOk result (λ step. IfSome step.change (HasRoom (sum_in ledger.new.books) ledger.new.room)) }
 {
     let fact = published_fact(ledger.alloc(), id, news, now)?;
     let addressed = ledger.address(fact)?;
@@ -86,7 +86,7 @@ pub fn publish(ledger: &mut Ledger, id: &Text, news: &News, now: u64) -> Result<
     ensures keeps { ledger.new.books ≡ ledger.old.books }
     ensures answers { Answers PrepareFault.Memory (result_map reply_in result)
         (outcome (table.publishing (sum_in ledger.old.books).parts id.now news.now now)) }
-    ensures room { IfOk result (λ step. IfSome step.change (HasRoom (sum_in ledger.new.books).parts ledger.new.room)) }
+    ensures room { IfOk result (λ step. IfSome step.change (HasRoom (sum_in ledger.new.books) ledger.new.room)) }
 {
     if let Some(publication) = ledger.publication(id) {
         let answer = answer_again(ledger.alloc(), ledger.store_id(), publication, news)?;

@@ -115,7 +115,7 @@ pub fn settle(
     ensures keeps { ledger.new.books ≡ ledger.old.books }
     ensures answers { Answers PrepareFault.Memory (result_map reply_in result)
         (told.outcome (table.settling (sum_in ledger.old.books) stream.now number outcome.now)) }
-    ensures room { IfOk result (λ step. IfSome step.change (HasRoom (sum_in ledger.new.books).parts ledger.new.room)) }
+    ensures room { IfOk result (λ step. IfSome step.change (HasRoom (sum_in ledger.new.books) ledger.new.room)) }
 {
     let items = settled_on(ledger, stream, number, outcome)?;
     let reply = settled_reply(ledger.alloc(), stream, items)?;

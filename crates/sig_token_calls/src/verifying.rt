@@ -90,7 +90,7 @@ fn ask(
     ensures keeps { ledger.new.books ≡ ledger.old.books }
     ensures answers { Answers PrepareFault.Memory (result_map reply_in result)
         (outcome (making (sum_in ledger.old.books).parts (answer.Asked stream.now number) (fact.Asked stream.now state.now now))) }
-    ensures room { IfOk result (λ step. IfSome step.change (HasRoom (sum_in ledger.new.books).parts ledger.new.room)) }
+    ensures room { IfOk result (λ step. IfSome step.change (HasRoom (sum_in ledger.new.books) ledger.new.room)) }
 {
     let alloc = ledger.alloc();
     let answer = asked_answer(alloc, stream, number)?;
@@ -112,7 +112,7 @@ pub fn verify(
     ensures keeps { ledger.new.books ≡ ledger.old.books }
     ensures answers { Answers PrepareFault.Memory (result_map reply_in result)
         (outcome (table.verifying (sum_in ledger.old.books).parts client.now stream.now state.now now)) }
-    ensures room { IfOk result (λ step. IfSome step.change (HasRoom (sum_in ledger.new.books).parts ledger.new.room)) }
+    ensures room { IfOk result (λ step. IfSome step.change (HasRoom (sum_in ledger.new.books) ledger.new.room)) }
 {
     match ledger.client_account(client, stream) {
         None => Ok(Step::only(Answer::NotFound)),

@@ -1,4 +1,4 @@
-ghost use Rattle.std.specs.Prelude.{◌≡◌, ◌⊎◌, ◌+◌, ◌<◌, ◌++◌, length, IfErr, IfOk, IsErrOf, IsTrue, MatchResult, OnErr, OnOk, is_some, true};
+ghost use Rattle.std.specs.Prelude.{◌≡◌, ◌⊎◌, ◌+◌, ◌-◌, ◌<◌, ◌^◌, ◌++◌, length, min, IfErr, IfOk, IsErrOf, IsTrue, MatchResult, OnErr, OnOk, is_some, true};
 ghost use Rattle.std.specs.Option.{option_to_list};
 ghost use Rattle.sig_json.specs.Answers.{Answers};
 ghost use Rattle.sig_calls.specs.Proper.{IsProperRules};
@@ -55,6 +55,7 @@ impl<D: Disk> TxNode<D> {
     ghost use Rattle.sig_calls.specs.Table.{change_of};
     ghost use Rattle.sig_journal.specs.Standing.{StandsFor};
     ghost use Rattle.sig_journal.specs.Stored.{IsStored};
+    ghost use Rattle.sig_outbox.specs.Totals.{owed_in_all};
     ghost use Rattle.sig_txnode.specs.Answering.{Answered, answer_at, time_used};
     ghost use Rattle.sig_txnode.specs.Loaded.{GivesState};
     ghost use Rattle.sig_txnode.specs.Node.{IsNode, begun};
@@ -158,6 +159,27 @@ impl<D: Disk> TxNode<D> {
         ensures { result ≡ self.now.store.journal.records }
     {
         self.held.store.records()
+    }
+
+    /// How many bytes of the store's file in force have a meaning. It takes no memory.
+    pub fn bytes(&self) -> u64
+        ensures { result ≡ self.now.store.journal.end }
+    {
+        self.held.store.end()
+    }
+
+    /// How many streams stand. It takes no memory.
+    pub fn streams(&self) -> usize
+        ensures { result ≡ length self.now.state.parts.streams }
+    {
+        self.held.outbox.streams()
+    }
+
+    /// How many tokens all streams owe together, or 2^64 - 1 where they are more. It takes no memory.
+    pub fn owed_in_all(&self) -> u64
+        ensures { result ≡ min (owed_in_all self.now.state) (2 ^ 64 - 1) }
+    {
+        self.held.outbox.owed_in_all()
     }
 
     /// How many turns were kept when the disk's count of faults rose, the turn of that call included; none exactly while the

@@ -1,6 +1,6 @@
 //! What a fact leaves of a ledger. None of it takes memory.
 
-ghost use Rattle.std.specs.Prelude.{◌≡◌, ℕ, Bool, List, [], ◌∷◌, is_some, true};
+ghost use Rattle.std.specs.Prelude.{◌≡◌, ◌<◌, ◌≤◌, ℕ, Bool, List, [], ◌∷◌, is_some, length, true};
 ghost use Rattle.sig_history.specs.Streams.{is_named};
 ghost use Rattle.sig_accounts.specs.Owings.{notice_for};
 
@@ -8,13 +8,14 @@ use crate::ledger::Ledger;
 use crate::prepared::{Prepared, Spare};
 use indexmap::IndexSet;
 use sig_accounts::{
-    Account, Notice, Publication, Said, count_one, created_by, enter_place, hear_all, place_named,
+    Account, KeptRefusal, Notice, Publication, Said, count_one, created_by, hear_all, place_named,
     put_account,
 };
 use sig_event::{News, Status};
 use sig_json::{Items, Text};
 use sig_subject::Subject;
 use sig_terms::{Delivery, Fact, StreamConf};
+use std::collections::VecDeque;
 
 // The token that tells the receiver of a status that the operator set, with the reason that is kept beside the fact.
 fn notice_of(status: Status, spare: Spare, operator: bool, time: u64) -> Option<Notice>
@@ -32,15 +33,16 @@ impl Ledger {
     ghost use Rattle.sig_history.specs.Owed.{sum_of};
     ghost use Rattle.sig_history.specs.Sound.{Fits};
     ghost use Rattle.sig_ledger.specs.Books.{sum_in};
+    ghost use Rattle.sig_accounts.specs.Listening.{room_for};
     ghost use Rattle.sig_accounts.specs.Owings.{AreNumbers};
-    ghost use Rattle.sig_ledger.specs.Room.{HasRoom, HaveRoom};
+    ghost use Rattle.sig_ledger.specs.Room.{AreReported, HasRoom, HaveRoom};
     ghost use Rattle.sig_terms.specs.declared.fact.Fact.TheVariants.{Asked, Configured, Created, Deleted, Listed, Published, Settled, StatusSet, Unlisted};
     ghost use Rattle.sig_terms.specs.declared.fact.SettledItem.{SettledItem};
 
     /// Takes in a fact that fits, and for which there is room. It takes no memory.
     pub fn commit(&mut self, prepared: Prepared)
         requires fits { Fits (sum_in self.old.books) prepared.fact }
-        requires room { HasRoom (sum_in self.old.books).parts self.old.room prepared }
+        requires room { HasRoom (sum_in self.old.books) self.old.room prepared }
         ensures { sum_in self.new.books ≡ sum_of (sum_in self.old.books) (prepared.fact ∷ []) }
     {
         let (fact, spare) = prepared.into_parts();
@@ -77,9 +79,10 @@ impl Ledger {
                 drop(spare);
                 self.delete(&stream);
             }
-            Fact::Published { id, news, time } => self.publish(id, news, time, spare),
+            Fact::Published { id, news, time } => self.publish(&id, news, time, spare),
             Fact::Settled { stream, items } => {
-                self.settle(&stream, &spare.into_numbers());
+                let (numbers, reported) = spare.into_items();
+                self.settle(&stream, &numbers, reported);
                 drop(items);
             }
             Fact::Asked {
@@ -96,13 +99,14 @@ impl Ledger {
     // A stream was made.
     fn take_stream(&mut self, conf: StreamConf, spare: Spare)
         requires fits { (time : ℕ) → Fits (sum_in self.old.books) (Created conf time) }
-        requires room { (time : ℕ) → HasRoom (sum_in self.old.books).parts self.old.room (record { fact = Created conf time; spare = spare }) }
+        requires room { (time : ℕ) → HasRoom (sum_in self.old.books) self.old.room (record { fact = Created conf time; spare = spare }) }
         ensures { (time : ℕ) → sum_in self.new.books ≡ sum_of (sum_in self.old.books) (Created conf time ∷ []) }
     {
         let (client, name) = spare.into_names();
         let number = created_by(self.created.as_slice(), &client) + 1;
         let account = Account::open(self.alloc, number, conf, name);
-        put_account(&mut self.accounts, account);
+        let place = put_account(&mut self.accounts, account);
+        self.listeners.open(place);
         count_one(&mut self.created, client);
     }
 
@@ -144,9 +148,11 @@ impl Ledger {
     fn list(&mut self, stream: &Text, subject: Subject)
         requires fits { Fits (sum_in self.old.books) (Listed stream.now subject) }
         requires room { HaveRoom (is_named stream.now) (sum_in self.old.books).parts.streams self.old.room.subjects }
+        requires seat { 0 < room_for subject self.old.room.listeners.lists }
         ensures { sum_in self.new.books ≡ sum_of (sum_in self.old.books) (Listed stream.now subject ∷ []) }
     {
         let place = place_named(self.accounts.as_slice(), stream.as_str());
+        self.listeners.enter(place, &subject);
         self.accounts[place].list(subject);
     }
 
@@ -156,6 +162,7 @@ impl Ledger {
         ensures { sum_in self.new.books ≡ sum_of (sum_in self.old.books) (Unlisted stream.now subject.now ∷ []) }
     {
         let place = place_named(self.accounts.as_slice(), stream.as_str());
+        self.listeners.leave(place, subject);
         self.accounts[place].unlist(subject);
     }
 
@@ -165,31 +172,36 @@ impl Ledger {
         ensures { sum_in self.new.books ≡ sum_of (sum_in self.old.books) (Deleted stream.now ∷ []) }
     {
         let place = place_named(self.accounts.as_slice(), stream.as_str());
-        let _ = self.accounts.remove(place);
+        let account = self.accounts.remove(place);
+        self.listeners.close(place, account.listed());
     }
 
     // News were published.
-    fn publish(&mut self, id: Text, news: News, time: u64, spare: Spare)
-        requires fits { Fits (sum_in self.old.books) (Published id news time) }
-        requires room { HasRoom (sum_in self.old.books).parts self.old.room (record { fact = Published id news time; spare = spare }) }
-        ensures { sum_in self.new.books ≡ sum_of (sum_in self.old.books) (Published id news time ∷ []) }
+    fn publish(&mut self, id: &Text, news: News, time: u64, spare: Spare)
+        requires fits { Fits (sum_in self.old.books) (Published id.now news time) }
+        requires room { HasRoom (sum_in self.old.books) self.old.room (record { fact = Published id.now news time; spare = spare }) }
+        ensures { sum_in self.new.books ≡ sum_of (sum_in self.old.books) (Published id.now news time ∷ []) }
     {
-        let (key, issued, told) = spare.into_tokens();
+        let (kept, issued, told) = spare.into_tokens();
         let place = self.published.len();
         hear_all(self.accounts.as_mut_slice(), &told, time, place);
-        enter_place(&mut self.places, key, place);
+        self.places.enter(self.published.as_slice(), id.as_str());
         // There is room, so the push keeps the publication.
-        let _ = self.published.push(Publication::of(id, news, issued));
+        let _ = self.published.push(Publication::of(kept, news, issued));
     }
 
-    // Tokens of a stream were settled, those of these numbers.
-    fn settle(&mut self, stream: &Text, numbers: &IndexSet<u64>)
-        requires { (items : List SettledItem) × AreNumbers numbers.now.keys items × Fits (sum_in self.old.books) (Settled stream.now items) }
+    // Tokens of a stream were settled, those of these numbers, of which these were reported.
+    fn settle(&mut self, stream: &Text, numbers: &IndexSet<u64>, reported: VecDeque<KeptRefusal>)
+        requires fits { (items : List SettledItem) × AreNumbers numbers.now.keys items × Fits (sum_in self.old.books) (Settled stream.now items)
+            × AreReported (sum_in self.old.books) (Settled stream.now items) reported.items }
+        requires room { length reported.items ≤ self.old.room.refused }
         ensures { (items : List SettledItem) → AreNumbers numbers.now.keys items → Fits (sum_in self.old.books) (Settled stream.now items)
+            → AreReported (sum_in self.old.books) (Settled stream.now items) reported.items
             → sum_in self.new.books ≡ sum_of (sum_in self.old.books) (Settled stream.now items ∷ []) }
     {
         let place = place_named(self.accounts.as_slice(), stream.as_str());
         self.accounts[place].settle(numbers);
+        self.refused.take_in(reported);
     }
 
     // A verification of a stream was asked for.

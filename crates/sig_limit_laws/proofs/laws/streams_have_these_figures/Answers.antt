@@ -13,4 +13,7 @@ returns c = record {
   want_items = refl;
   setting_bytes = refl;
   setting_items = refl;
+  refused = refl;
+  refused_page = refl;
+  code = refl;
 }

@@ -5,7 +5,13 @@ use Rattle.sig_accounts.specs.Owings.{Balance, owing_in, stream_in}
 use Rattle.sig_accounts.specs.Telling.{IsAddressed}
 use Rattle.sig_ledger.specs.Books.{sum_in}
 use Rattle.sig_ledger.specs.Room.{Held}
+use Rattle.sig_accounts.specs.Listening.{IsListening}
+use Rattle.sig_accounts.specs.Owings.{list_of}
 use Rattle.sig_ledger.proofs.ledger.Ledger.address.Goals as goal
+
+pub addressed_to-requires : goal.addressed_to-requires
+addressed_to-requires c =
+    subst (λ (bs : List Balance). IsListening c.self.inside.listeners (map list_of (map owing_in bs))) (sym c.as_slice.ensures.value) c.self.invariant.2
 
 pub returns-clause-told : goal.returns-clause-told
 returns-clause-told c =

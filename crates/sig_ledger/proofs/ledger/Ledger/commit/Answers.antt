@@ -14,13 +14,13 @@ take_stream-requires-clause-fits c = λ time.
 
 pub take_stream-requires-clause-room : goal.take_stream-requires-clause-room
 take_stream-requires-clause-room c = λ time.
-    let made : HasRoom (sum_in c.args.self.now.books).parts c.args.self.now.room (record { fact = Created c.in-Created.conf c.in-Created.time; spare = c.args.prepared.spare }) =
-    subst (λ (f : Fact). HasRoom (sum_in c.args.self.now.books).parts c.args.self.now.room (record { fact = f; spare = c.args.prepared.spare }))
+    let made : HasRoom (sum_in c.args.self.now.books) c.args.self.now.room (record { fact = Created c.in-Created.conf c.in-Created.time; spare = c.args.prepared.spare }) =
+    subst (λ (f : Fact). HasRoom (sum_in c.args.self.now.books) c.args.self.now.room (record { fact = f; spare = c.args.prepared.spare }))
     (sym c.into_parts-fact.ensures.fact ∙ c.in-Created.is) c.requires.room in
-    let held : HasRoom (sum_in c.args.self.now.books).parts c.args.self.now.room (record { fact = Created c.in-Created.conf c.in-Created.time; spare = c.into_parts-fact.result.1 }) =
-    subst (λ (s : Spare). HasRoom (sum_in c.args.self.now.books).parts c.args.self.now.room (record { fact = Created c.in-Created.conf c.in-Created.time; spare = s }))
+    let held : HasRoom (sum_in c.args.self.now.books) c.args.self.now.room (record { fact = Created c.in-Created.conf c.in-Created.time; spare = c.into_parts-fact.result.1 }) =
+    subst (λ (s : Spare). HasRoom (sum_in c.args.self.now.books) c.args.self.now.room (record { fact = Created c.in-Created.conf c.in-Created.time; spare = s }))
     (sym c.into_parts-fact.ensures.spare) made in
-    record { spare = held.spare; told = held.told; tokens = held.tokens; space = held.space }
+    record { spare = held.spare; told = held.told; tokens = held.tokens; space = held.space; refused = held.refused }
 
 pub set_status-requires-clause-room : goal.set_status-requires-clause-room
 set_status-requires-clause-room c = λ some.

@@ -12,6 +12,7 @@ returns-then-has_same_records c =
         store_id = parts.0;
         created = parts.1;
         published = parts.2;
+        refused = parts.3;
         tellings = as_held _ _ _ _ _ _ c.published-everything.ensures c.accounts-some.ensures.accounts c.accounts-others.ensures.accounts
             (c.same_accounts.ensures.0 is);
       }),

@@ -23,13 +23,16 @@ use Rattle.sig_accounts.proofs.ChangeLemmas.{room_at}
 use Rattle.sig_ledger.proofs.RoomLemmas.{tops_below}
 use Rattle.sig_accounts.proofs.ChangeLemmas.{top_at}
 use Rattle.sig_ledger.proofs.ChangedBooks.{IsChange, apt_by, books_in, change_here, change_kept, change_sum, place_within}
+use Rattle.sig_accounts.specs.Listening.{IsListening}
+use Rattle.sig_accounts.specs.Owings.{list_of}
+use Rattle.sig_accounts.proofs.ListeningLemmas.{list_noted, lists_kept}
 use Rattle.sig_ledger.proofs.ledger.Ledger.set_status.Goals as goal
 
 pub index_mut-requires : goal.index_mut-requires
 index_mut-requires c =
     let operator : Bool = c.requires.fits.0 in
     let time : ℕ = c.requires.fits.1 in
-    let b : Books = books_in c.self.inside.store_id c.self.inside.accounts.items c.self.inside.created.items c.self.inside.published.items in
+    let b : Books = books_in c.self.inside.store_id c.self.inside.accounts.items c.self.inside.created.items c.self.inside.published.items c.self.inside.refused.reported in
     let f : Fact = StatusSet c.args.stream.now c.args.status c.args.reason operator time in
     let fits : Fits (sum_in b) f = subst (λ (h : Held). Fits (sum_in h.books) f) (sym c.self.view_is) c.requires.fits.3 in
     let at : c.place_named-place.result ≡ position_or_len (has_name c.args.stream.now) c.self.inside.accounts.items =
@@ -43,7 +46,7 @@ pub note_status-requires-clause-room : goal.note_status-requires-clause-room
 note_status-requires-clause-room c = λ some.
     let operator : Bool = c.requires.fits.0 in
     let time : ℕ = c.requires.fits.1 in
-    let b : Books = books_in c.self.inside.store_id c.self.inside.accounts.items c.self.inside.created.items c.self.inside.published.items in
+    let b : Books = books_in c.self.inside.store_id c.self.inside.accounts.items c.self.inside.created.items c.self.inside.published.items c.self.inside.refused.reported in
     let f : Fact = StatusSet c.args.stream.now c.args.status c.args.reason operator time in
     let fits : Fits (sum_in b) f = subst (λ (h : Held). Fits (sum_in h.books) f) (sym c.self.view_is) c.requires.fits.3 in
     let at : c.place_named-place.result ≡ position_or_len (has_name c.args.stream.now) c.self.inside.accounts.items =
@@ -59,7 +62,7 @@ pub note_status-requires-clause-number : goal.note_status-requires-clause-number
 note_status-requires-clause-number c =
     let operator : Bool = c.requires.fits.0 in
     let time : ℕ = c.requires.fits.1 in
-    let b : Books = books_in c.self.inside.store_id c.self.inside.accounts.items c.self.inside.created.items c.self.inside.published.items in
+    let b : Books = books_in c.self.inside.store_id c.self.inside.accounts.items c.self.inside.created.items c.self.inside.published.items c.self.inside.refused.reported in
     let f : Fact = StatusSet c.args.stream.now c.args.status c.args.reason operator time in
     let fits : Fits (sum_in b) f = subst (λ (h : Held). Fits (sum_in h.books) f) (sym c.self.view_is) c.requires.fits.3 in
     let at : c.place_named-place.result ≡ position_or_len (has_name c.args.stream.now) c.self.inside.accounts.items =
@@ -70,10 +73,10 @@ note_status-requires-clause-number c =
     top_at c.self.inside.accounts.items c.place_named-place.result c.index_mut.result.now within c.index_mut.ensures.value
     (tops_below c.self.inside.store_id c.self.inside.published.items c.self.inside.created.items c.self.inside.accounts.items c.self.invariant.0.whole)
 
-change : (c : goal.After-self-1) (operator : Bool) (time : ℕ) → c.args.notice ≡ notice_for c.args.status c.args.reason operator time → Fits (sum_in c.args.self.now.books) (StatusSet c.args.stream.now c.args.status c.args.reason operator time) → IsChange (books_in c.self.inside.store_id c.self.inside.accounts.items c.self.inside.created.items c.self.inside.published.items) (StatusSet c.args.stream.now c.args.status c.args.reason operator time) (said.Updated c.args.status c.args.reason)
+change : (c : goal.After-self-1) (operator : Bool) (time : ℕ) → c.args.notice ≡ notice_for c.args.status c.args.reason operator time → Fits (sum_in c.args.self.now.books) (StatusSet c.args.stream.now c.args.status c.args.reason operator time) → IsChange (books_in c.self.inside.store_id c.self.inside.accounts.items c.self.inside.created.items c.self.inside.published.items c.self.inside.refused.reported) (StatusSet c.args.stream.now c.args.status c.args.reason operator time) (said.Updated c.args.status c.args.reason)
     (map owing_in (set c.self.inside.accounts.items c.place_named-place.result c.note_status.new.self))
 change c operator time is fitting =
-    let b : Books = books_in c.self.inside.store_id c.self.inside.accounts.items c.self.inside.created.items c.self.inside.published.items in
+    let b : Books = books_in c.self.inside.store_id c.self.inside.accounts.items c.self.inside.created.items c.self.inside.published.items c.self.inside.refused.reported in
     let f : Fact = StatusSet c.args.stream.now c.args.status c.args.reason operator time in
     let fits : Fits (sum_in b) f = subst (λ (h : Held). Fits (sum_in h.books) f) (sym c.self.view_is) fitting in
     let at : c.place_named-place.result ≡ position_or_len (has_name c.args.stream.now) c.self.inside.accounts.items =
@@ -89,7 +92,13 @@ change c operator time is fitting =
     (c.note_status.ensures ∙ ap (λ (n : Option Notice). owing_noted n (owing_set c.args.status c.args.reason c.index_mut.result.now.owing)) is)
 
 pub invariant_of-self : goal.invariant_of-self
-invariant_of-self c = (change_kept _ _ _ _ (change c c.requires.fits.0 c.requires.fits.1 c.requires.fits.2 c.requires.fits.3), c.self.invariant.1)
+invariant_of-self c = (
+  change_kept _ _ _ _ (change c c.requires.fits.0 c.requires.fits.1 c.requires.fits.2 c.requires.fits.3),
+  c.self.invariant.1,
+  subst (IsListening c.self.inside.listeners)
+      (sym (lists_kept c.self.inside.accounts.items c.place_named-place.result c.index_mut.result.now c.note_status.new.self c.index_mut.ensures.value (ap list_of c.note_status.ensures ∙ list_noted c.args.notice (owing_set c.args.status c.args.reason c.index_mut.result.now.owing))))
+      c.self.invariant.2,
+)
 
 pub returns : goal.returns
 returns c = λ operator time is fitting.

@@ -12,11 +12,14 @@ use Rattle.sig_history.specs.Streams.{list_removed, with_listed}
 use Rattle.sig_accounts.specs.Owings.{owing_with}
 use Rattle.sig_accounts.proofs.ChangeLemmas.{unlisted_all}
 use Rattle.sig_ledger.proofs.ChangedBooks.{IsChange, apt_by, books_in, change_here, change_kept, change_sum, nothing_said, place_within}
+use Rattle.sig_accounts.specs.Listening.{IsListening}
+use Rattle.sig_accounts.specs.Owings.{list_of}
+use Rattle.sig_accounts.proofs.ListeningLemmas.{list_at, lists_set}
 use Rattle.sig_ledger.proofs.ledger.Ledger.unlist.Goals as goal
 
 pub index_mut-requires : goal.index_mut-requires
 index_mut-requires c =
-    let b : Books = books_in c.self.inside.store_id c.self.inside.accounts.items c.self.inside.created.items c.self.inside.published.items in
+    let b : Books = books_in c.self.inside.store_id c.self.inside.accounts.items c.self.inside.created.items c.self.inside.published.items c.self.inside.refused.reported in
     let f : Fact = Unlisted c.args.stream.now c.args.subject.now in
     let fits : Fits (sum_in b) f = subst (λ (h : Held). Fits (sum_in h.books) f) (sym c.self.view_is) c.requires in
     let at : c.place_named-place.result ≡ position_or_len (has_name c.args.stream.now) c.self.inside.accounts.items =
@@ -26,10 +29,10 @@ index_mut-requires c =
     subst (λ n. n < length c.self.inside.accounts.items) (sym at) (place_within b c.self.inside.accounts.items c.args.stream.now refl (apt_by (sum_in b) f fits)) in
     omega (arith, c.self.inside.accounts.ok)
 
-change : (c : goal.After-self-1) → IsChange (books_in c.self.inside.store_id c.self.inside.accounts.items c.self.inside.created.items c.self.inside.published.items) (Unlisted c.args.stream.now c.args.subject.now) nothing_said
+change : (c : goal.After-self-1) → IsChange (books_in c.self.inside.store_id c.self.inside.accounts.items c.self.inside.created.items c.self.inside.published.items c.self.inside.refused.reported) (Unlisted c.args.stream.now c.args.subject.now) nothing_said
     (map owing_in (set c.self.inside.accounts.items c.place_named-place.result c.unlist.new.self))
 change c =
-    let b : Books = books_in c.self.inside.store_id c.self.inside.accounts.items c.self.inside.created.items c.self.inside.published.items in
+    let b : Books = books_in c.self.inside.store_id c.self.inside.accounts.items c.self.inside.created.items c.self.inside.published.items c.self.inside.refused.reported in
     let f : Fact = Unlisted c.args.stream.now c.args.subject.now in
     let fits : Fits (sum_in b) f = subst (λ (h : Held). Fits (sum_in h.books) f) (sym c.self.view_is) c.requires in
     let at : c.place_named-place.result ≡ position_or_len (has_name c.args.stream.now) c.self.inside.accounts.items =
@@ -40,11 +43,27 @@ change c =
     change_here b c.self.inside.accounts.items f nothing_said c.args.stream.now
     (λ (o : Owing). owing_with (with_listed (list_removed c.args.subject.now o.stream.listed) o.stream) o)
     c.place_named-place.result c.index_mut.result.now c.unlist.new.self
-    (record { kept = c.self.invariant.0; fits = fits; says = λ s told. tt; placed = tt }) refl refl refl refl
+    (record { kept = c.self.invariant.0; fits = fits; says = λ s told. tt; placed = tt; by = tt; reported = record { same = refl; known = tt } }) refl refl refl refl
     (unlisted_all c.args.stream.now c.args.subject.now nothing_said) at within c.index_mut.ensures.value c.unlist.ensures
 
+listening : (c : goal.After-self-1) → IsListening c.leave.new.self (map list_of (map owing_in (set c.self.inside.accounts.items c.place_named-place.result c.unlist.new.self)))
+listening c =
+    let b : Books = books_in c.self.inside.store_id c.self.inside.accounts.items c.self.inside.created.items c.self.inside.published.items c.self.inside.refused.reported in
+    let f : Fact = Unlisted c.args.stream.now c.args.subject.now in
+    let fits : Fits (sum_in b) f = subst (λ (h : Held). Fits (sum_in h.books) f) (sym c.self.view_is) c.requires in
+    let at : c.place_named-place.result ≡ position_or_len (has_name c.args.stream.now) c.self.inside.accounts.items =
+    c.place_named-place.ensures ∙ ap (λ n. position_or_len (has_name n) c.as_slice.result.now) c.as_str.ensures.same
+    ∙ ap (λ (bs : List Balance). position_or_len (has_name c.args.stream.now) bs) c.as_slice.ensures.value in
+    let within : c.place_named-place.result < length c.self.inside.accounts.items =
+    subst (λ n. n < length c.self.inside.accounts.items) (sym at) (place_within b c.self.inside.accounts.items c.args.stream.now refl (apt_by (sum_in b) f fits)) in
+    let lists = map list_of (map owing_in c.self.inside.accounts.items) in
+    subst (IsListening c.leave.new.self)
+    (sym (lists_set c.self.inside.accounts.items c.place_named-place.result c.unlist.new.self ∙ ap (set lists c.place_named-place.result) (ap list_of c.unlist.ensures)))
+    (c.leave.ensures lists c.index_mut.result.now.owing.stream.listed
+    (list_at c.self.inside.accounts.items c.place_named-place.result c.index_mut.result.now within c.index_mut.ensures.value) c.self.invariant.2)
+
 pub invariant_of-self : goal.invariant_of-self
-invariant_of-self c = (change_kept _ _ _ _ (change c), c.self.invariant.1)
+invariant_of-self c = (change_kept _ _ _ _ (change c), c.self.invariant.1, listening c)
 
 pub returns : goal.returns
 returns c =

@@ -20,11 +20,14 @@ use Rattle.sig_accounts.proofs.ChangeLemmas.{room_at}
 use Rattle.sig_ledger.proofs.RoomLemmas.{tops_below}
 use Rattle.sig_accounts.proofs.ChangeLemmas.{top_at}
 use Rattle.sig_ledger.proofs.ChangedBooks.{IsChange, apt_by, books_in, change_here, change_kept, change_sum, place_within}
+use Rattle.sig_accounts.specs.Listening.{IsListening}
+use Rattle.sig_accounts.specs.Owings.{list_of}
+use Rattle.sig_accounts.proofs.ListeningLemmas.{lists_kept}
 use Rattle.sig_ledger.proofs.ledger.Ledger.verify.Goals as goal
 
 pub index_mut-requires : goal.index_mut-requires
 index_mut-requires c =
-    let b : Books = books_in c.self.inside.store_id c.self.inside.accounts.items c.self.inside.created.items c.self.inside.published.items in
+    let b : Books = books_in c.self.inside.store_id c.self.inside.accounts.items c.self.inside.created.items c.self.inside.published.items c.self.inside.refused.reported in
     let f : Fact = Asked c.args.stream.now c.args.state c.args.time in
     let fits : Fits (sum_in b) f = subst (λ (h : Held). Fits (sum_in h.books) f) (sym c.self.view_is) c.requires.fits in
     let at : c.place_named-place.result ≡ position_or_len (has_name c.args.stream.now) c.self.inside.accounts.items =
@@ -36,7 +39,7 @@ index_mut-requires c =
 
 pub verify-requires-clause-room : goal.verify-requires-clause-room
 verify-requires-clause-room c =
-    let b : Books = books_in c.self.inside.store_id c.self.inside.accounts.items c.self.inside.created.items c.self.inside.published.items in
+    let b : Books = books_in c.self.inside.store_id c.self.inside.accounts.items c.self.inside.created.items c.self.inside.published.items c.self.inside.refused.reported in
     let f : Fact = Asked c.args.stream.now c.args.state c.args.time in
     let fits : Fits (sum_in b) f = subst (λ (h : Held). Fits (sum_in h.books) f) (sym c.self.view_is) c.requires.fits in
     let at : c.place_named-place.result ≡ position_or_len (has_name c.args.stream.now) c.self.inside.accounts.items =
@@ -50,7 +53,7 @@ verify-requires-clause-room c =
 
 pub verify-requires-clause-number : goal.verify-requires-clause-number
 verify-requires-clause-number c =
-    let b : Books = books_in c.self.inside.store_id c.self.inside.accounts.items c.self.inside.created.items c.self.inside.published.items in
+    let b : Books = books_in c.self.inside.store_id c.self.inside.accounts.items c.self.inside.created.items c.self.inside.published.items c.self.inside.refused.reported in
     let f : Fact = Asked c.args.stream.now c.args.state c.args.time in
     let fits : Fits (sum_in b) f = subst (λ (h : Held). Fits (sum_in h.books) f) (sym c.self.view_is) c.requires.fits in
     let at : c.place_named-place.result ≡ position_or_len (has_name c.args.stream.now) c.self.inside.accounts.items =
@@ -61,10 +64,10 @@ verify-requires-clause-number c =
     top_at c.self.inside.accounts.items c.place_named-place.result c.index_mut.result.now within c.index_mut.ensures.value
     (tops_below c.self.inside.store_id c.self.inside.published.items c.self.inside.created.items c.self.inside.accounts.items c.self.invariant.0.whole)
 
-change : (c : goal.After-self-1) → IsChange (books_in c.self.inside.store_id c.self.inside.accounts.items c.self.inside.created.items c.self.inside.published.items) (Asked c.args.stream.now c.args.state c.args.time) (said.Verified c.args.state)
+change : (c : goal.After-self-1) → IsChange (books_in c.self.inside.store_id c.self.inside.accounts.items c.self.inside.created.items c.self.inside.published.items c.self.inside.refused.reported) (Asked c.args.stream.now c.args.state c.args.time) (said.Verified c.args.state)
     (map owing_in (set c.self.inside.accounts.items c.place_named-place.result c.verify.new.self))
 change c =
-    let b : Books = books_in c.self.inside.store_id c.self.inside.accounts.items c.self.inside.created.items c.self.inside.published.items in
+    let b : Books = books_in c.self.inside.store_id c.self.inside.accounts.items c.self.inside.created.items c.self.inside.published.items c.self.inside.refused.reported in
     let f : Fact = Asked c.args.stream.now c.args.state c.args.time in
     let fits : Fits (sum_in b) f = subst (λ (h : Held). Fits (sum_in h.books) f) (sym c.self.view_is) c.requires.fits in
     let at : c.place_named-place.result ≡ position_or_len (has_name c.args.stream.now) c.self.inside.accounts.items =
@@ -79,7 +82,13 @@ change c =
     (asked_all c.args.stream.now c.args.state c.args.time) at within c.index_mut.ensures.value c.verify.ensures
 
 pub invariant_of-self : goal.invariant_of-self
-invariant_of-self c = (change_kept _ _ _ _ (change c), c.self.invariant.1)
+invariant_of-self c = (
+  change_kept _ _ _ _ (change c),
+  c.self.invariant.1,
+  subst (IsListening c.self.inside.listeners)
+      (sym (lists_kept c.self.inside.accounts.items c.place_named-place.result c.index_mut.result.now c.verify.new.self c.index_mut.ensures.value (ap list_of c.verify.ensures)))
+      c.self.invariant.2,
+)
 
 pub returns : goal.returns
 returns c =
