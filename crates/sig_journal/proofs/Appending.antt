@@ -7,7 +7,7 @@ use Rattle.std.specs.Int.{to_be_bytes, w32}
 use Rattle.std.specs.Prelude.{IsSomeAnd, MatchBool, IsTrue, OnOk, is_ok, is_err}
 use Rattle.sig_outside.specs.Disk.{Only, Stop}
 use Rattle.sig_journal.specs.Added.{IsJournal, RestsWith, Shows, ShowsAfter, ShowsBefore, ShowsEither, rests_with_it}
-use Rattle.sig_journal.specs.Journal.{BothTold, IsAtRest, Open, Stands, image_store, told_store}
+use Rattle.sig_journal.specs.Journal.{BothTold, IsAtRest, KnowsFiles, Open, Stands, image_store, told_store}
 use Rattle.sig_journal.specs.Layout.{Content, end_of, framed_bytes}
 use Rattle.sig_journal.specs.Store.{IsBeforeOrAfter, add_record, with_record}
 use Rattle.sig_journal.proofs.Stores.{held, shown}
@@ -76,7 +76,7 @@ end-more content payload = omega (arith, sum_by_push (λ p. 5 + length p) conten
 module _ {D : Type 0} (told : D → Bool) (seen : D → List ℕ) (may_leave : D → List ℕ → Type 0) (journal : Open D) (payload : List ℕ) (file : D) (records end : ℕ) where
   -- the journal after a record was added to its file in force
   abbrev pub grown : Open D
-  grown = record { written = file; other = journal.other; in_b = journal.in_b; kind = journal.kind; records = records; end = end; broken = journal.broken }
+  grown = record { written = file; other = journal.other; in_b = journal.in_b; kind = journal.kind; records = records; end = end; broken = journal.broken; generation = journal.generation; other_open = journal.other_open; store_id = journal.store_id }
 
   pub rest_after : IsAtRest told seen may_leave journal → Only (seen file) (may_leave file) → told file ≡ told journal.written
       → (IsTrue (told journal.written) → ShowsAfter (seen journal.written) journal.end payload (seen file))
@@ -93,6 +93,23 @@ module _ {D : Type 0} (told : D → Bool) (seen : D → List ℕ) (may_leave : D
           ends = omega (arith, ends, s.ends, end-more s.content payload, length-framed payload);
           counts = omega (arith, counts, s.counts, length-append s.content.records (payload ∷ []));
         };
+  }
+
+  -- which knows of its files what it knew
+  pub knows_after : told file ≡ told journal.written → (IsTrue (told journal.written) → ShowsAfter (seen journal.written) journal.end payload (seen file))
+      → end ≡ journal.end + length (framed_bytes payload) → KnowsFiles told seen journal → KnowsFiles told seen grown
+  knows_after same added more knows = record {
+    written = λ told_file.
+        let was = knows.written (sym same ∙ told_file) in
+        let shows = added (sym same ∙ told_file) journal.kind was.content (record { holds = was.holds; ends = was.ends }) in
+        record {
+          content = add_record was.content payload;
+          holds = shows.holds;
+          ends = omega (arith, more, was.ends, end-more was.content payload, length-framed payload);
+          named = was.named;
+          begins = shows.begins ∙ was.begins;
+        };
+    other = knows.other;
   }
 
   pub tells_after : IsAtRest told seen may_leave journal → (IsTrue (told journal.written) → ShowsAfter (seen journal.written) journal.end payload (seen file))

@@ -1,8 +1,7 @@
 -- Why a record was not added to the store of a node, by why it was not added to its journal.
-use Rattle.std.proofs.Common.{◌≡◌, ℕ, ◌+◌, ◌<◌, ◌≤◌, List, length, Option, Some, Result, Ok, Err, ap}
+use Rattle.std.proofs.Common.{◌≡◌, ℕ, ◌+◌, ◌<◌, ◌≤◌, List, length, Result, Ok, Err, ap}
 use Rattle.std.specs.Prelude.{◌↔◌, ⊤, IsErrOf, OnOk}
 use Rattle.sig_json.specs.declared.limits.TheConstants.{LAST_NUMBER}
-use Rattle.sig_outside.specs.Causes.{Raised}
 use Rattle.sig_journal.specs.declared.journal.AppendFault.{AppendFault}
 use Rattle.sig_journal.specs.declared.journal.AppendFault.TheVariants.{Store, Full}
 use Rattle.sig_journal.specs.Appended.{AppendCauses, Breaks}

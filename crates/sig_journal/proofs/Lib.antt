@@ -1,7 +1,10 @@
 pub mod Adding
 pub mod Appending
 pub mod Appends
+pub mod Beside
+pub mod Checkpoints
 pub mod Fronts
+pub mod GateLemmas
 pub mod Images
 pub mod LoadLemmas
 pub mod LoadSteps
@@ -9,5 +12,7 @@ pub mod Moments
 pub mod NewStores
 pub mod ReadLemmas
 pub mod RecordLemmas
+pub mod Runs
+pub mod Snapshots
 pub mod Stands
 pub mod Stores

@@ -3,7 +3,7 @@ use Rattle.std.proofs.Common.{◌≡◌, inl, inr, ℕ, ◌+◌, ◌*◌, ◌≤
 use Rattle.std.proofs.lemmas.Bool.{cases_lt}
 use Rattle.std.proofs.lemmas.List.{append-nil, take_all}
 use Rattle.std.proofs.lemmas.List.Sums.{sum_by-cons, sum_by_push}
-use Rattle.sig_journal.specs.declared.fault.LoadFault.TheVariants.{Damaged}
+use Rattle.sig_journal.specs.declared.fault.LoadFault.TheVariants.{Damaged, Memory, Store}
 use Rattle.sig_journal.specs.Layout.{Content, before_records, places_of, records_of, records_size}
 use Rattle.sig_journal.specs.declared.fault.LoadFault.{LoadFault}
 use Rattle.sig_journal.specs.Store.{Told, file_number, gate_of, in_file_at, told_in}
@@ -65,6 +65,14 @@ told_err in_b (Err at) fault is = ap (in_store in_b) is
     in_store : Bool → Result Content LoadFault → Result Told LoadFault
     in_store b (Ok c) = Ok (record { in_b = b; content = c })
     in_store b (Err fault) = Err fault
+
+-- what a file is damaged at is no fault of a disk, and nor is a lack of memory
+pub never_store : {T : Type 0} (file : ℕ) (read : Result T ℕ) (fault : LoadFault) → in_file_at file read ≡ Err fault → fault ≡ Store → ⊥
+never_store file (Ok x) fault is store = absurd cc
+never_store file (Err at) fault is store = cc
+
+pub memory_no_store : (fault : LoadFault) → fault ≡ Memory → fault ≡ Store → ⊥
+memory_no_store fault memory store = cc
 
 -- each record has its gate and its length
 pub records_least : (records : List (List ℕ)) → 5 * length records ≤ records_size records

@@ -1,13 +1,11 @@
 -- How the records of a store are taken up one by one, and what stands at their places.
-use Rattle.std.proofs.Common.{◌≡◌, ◌∙◌, ap, sym, ℕ, zero, suc, ◌+◌, ◌<◌, List, [], ◌∷◌, length, take, get_or, Bool, Option, Some, None, Result, Ok, Err, refl, arith}
+use Rattle.std.proofs.Common.{◌≡◌, ◌∙◌, ap, ℕ, zero, suc, ◌+◌, ◌<◌, List, [], ◌∷◌, length, take, get_or, Bool, Option, Some, None, Ok, Err, arith}
 use Rattle.std.proofs.lemmas.Bool.{false≢true}
 use Rattle.std.proofs.lemmas.List.Sums.{sum_by-cons}
-use Rattle.std.specs.Prelude.{is_some}
 use Rattle.std.specs.Option.{option_map_or}
 use Rattle.sig_journal.specs.Journal.{BothTold, Open, told_store}
 use Rattle.sig_journal.specs.Layout.{places_of, records_size}
 use Rattle.sig_journal.specs.Standing.{StandsFor}
-use Rattle.sig_journal.specs.Stored.{Stored}
 use Rattle.sig_journal.specs.Taking.{Taking, loaded, state_after}
 
 -- the first record is taken: the others decide

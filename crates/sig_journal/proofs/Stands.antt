@@ -1,17 +1,16 @@
 -- What a store stands for after a record was added to it, and after a call of the disk failed in which one was being added.
-use Rattle.std.proofs.Common.{◌≡◌, ◌∙◌, ap, sym, subst, inl, inr, ⊎_elim, ℕ, ◌+◌, ◌≤◌, List, [], ◌∷◌, ◌++◌, length, Bool, true, false, Option, Some, None, Result, Ok, Err, refl}
+use Rattle.std.proofs.Common.{◌≡◌, ◌∙◌, ap, sym, subst, inl, inr, ⊎_elim, ℕ, ◌+◌, ◌≤◌, List, [], ◌∷◌, ◌++◌, length, Bool, Option, Some, None, Result, Ok, Err}
 use Rattle.std.proofs.lemmas.Bool.{false≢true}
 use Rattle.std.specs.Prelude.{◌⊎◌, OnOk, is_ok, is_some}
 use Rattle.std.specs.Option.{option_map_or}
-use Rattle.sig_outside.specs.Disk.{LeavesOnly, Only, Stop}
+use Rattle.sig_outside.specs.Disk.{Only, Stop}
 use Rattle.sig_journal.specs.declared.fault.LoadFault.{LoadFault}
-use Rattle.sig_journal.specs.Added.{RestsWith}
-use Rattle.sig_journal.specs.Journal.{BothTold, IsAtRest, Open, image_store, store_with, told_store}
+use Rattle.sig_journal.specs.Journal.{BothTold, IsAtRest, image_store, store_with, told_store}
 use Rattle.sig_journal.specs.Store.{IsBeforeOrAfter, Told, file_number, in_file_at, with_record}
 use Rattle.sig_journal.proofs.Appending.{rests_map}
 use Rattle.sig_journal.proofs.Moments.{weaker}
 use Rattle.sig_journal.specs.Appended.{Breaks, HasRecord, LeavesRecord, WritesOne}
-use Rattle.sig_journal.specs.Standing.{Durable, InFlight, Loads, LoadsEither, StandsFor}
+use Rattle.sig_journal.specs.Standing.{Durable, Loads, LoadsEither, StandsFor}
 use Rattle.sig_journal.specs.Stored.{Stored}
 use Rattle.sig_journal.specs.Taking.{Taking, loaded, state_after}
 
@@ -32,7 +31,7 @@ state_after-more {S} step state mid after place (first ∷ records) payload took
       | Some next ↦ λ h. state_after-more step next mid after (place + 5 + length first) records payload h takes
     ] took
 
-in_file-ok : {S : Type 0} (file : ℕ) (read : Result S ℕ) (state : S) → in_file_at file read ≡ Ok state → read ≡ Ok state
+pub in_file-ok : {S : Type 0} (file : ℕ) (read : Result S ℕ) (state : S) → in_file_at file read ≡ Ok state → read ≡ Ok state
 in_file-ok {S} file (Ok held) state is = ap (held_or) is
   where
     held_or : Result S LoadFault → Result S ℕ

@@ -20,7 +20,7 @@ told_in-ok in_b found (Ok c) content is = (ap (in_b_or found) is, ap (held_or (O
     held_or other (Err fault) = other
 told_in-ok in_b found (Err at) content is = absurd cc
 
-told_by-ok : (kind : Kind) (a b : List ℕ) (force : Result Bool LoadFault) (in_b : Bool) (content : Content) → told_by kind a b force ≡ Ok (record { in_b = in_b; content = content })
+pub told_by-ok : (kind : Kind) (a b : List ℕ) (force : Result Bool LoadFault) (in_b : Bool) (content : Content) → told_by kind a b force ≡ Ok (record { in_b = in_b; content = content })
     → (force ≡ Ok in_b) × (content_of kind (pick in_b a b) ≡ Ok content)
 told_by-ok kind a b (Ok found) in_b content is =
     let parts = told_in-ok in_b found (content_of kind (pick found a b)) content is in

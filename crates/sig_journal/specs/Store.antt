@@ -6,7 +6,7 @@ use Rattle.sig_journal.specs.declared.gate.Gate.{Gate}
 use Rattle.sig_journal.specs.declared.gate.Gate.TheVariants.{NoByte, Closed, Opened}
 use Rattle.sig_journal.specs.declared.kind.Kind.{Kind}
 use Rattle.sig_journal.specs.declared.layout.TheConstants.{GATE_OPEN}
-use Rattle.sig_journal.specs.Layout.{Content, content_of, generation_of}
+use Rattle.sig_journal.specs.Layout.{Content, content_of, end_of, generation_of}
 
 -- how a file begins: with no byte, a closed gate, or an open one and its generation
 abbrev pub gate_of : List ℕ → Gate
@@ -61,6 +61,14 @@ with_record (Err fault) payload = Err fault
 -- a store tells what it told before, or that with the record
 abbrev pub IsBeforeOrAfter : Result Told LoadFault → List ℕ → Result Told LoadFault → Type 0
 IsBeforeOrAfter before payload now = (now ≡ before) ⊎ (now ≡ with_record before payload)
+
+-- a file in force: it begins with an open gate and this generation, holds the store of this name, and ends here
+pub record InForce (kind : Kind) (bytes : List ℕ) (end generation : ℕ) (store_id : List ℕ) : Type 0 where
+  pub content : Content
+  pub holds : content_of kind bytes ≡ Ok content
+  pub ends : end ≡ end_of content
+  pub named : content.store_id ≡ store_id
+  pub begins : gate_of bytes ≡ Opened generation
 
 -- a value of a file, or the offset at which that file is damaged
 abbrev pub in_file_at : {T : Type 0} → ℕ → Result T ℕ → Result T LoadFault

@@ -1,5 +1,6 @@
-ghost use Rattle.std.specs.Prelude.{◌≡◌};
-ghost use Rattle.sig_journal.specs.Store.{gate_of, in_force};
+ghost use Rattle.std.specs.Prelude.{◌≡◌, true, Ok};
+ghost use Rattle.sig_journal.specs.Gates.{BeginsOpen};
+ghost use Rattle.sig_journal.specs.Store.{gate_of, in_force, pick};
 
 use crate::LoadFault;
 use crate::header::{field, number_in_8};
@@ -44,5 +45,19 @@ pub fn choose(first: Gate, second: Gate) -> Result<bool, LoadFault>
         (Gate::Closed, Gate::Closed) => Err(LoadFault::Damaged { file: 0, at: 0 }),
         (Gate::Closed, Gate::NoByte) => Err(LoadFault::Damaged { file: 0, at: 0 }),
         (Gate::NoByte, _) => Err(LoadFault::Damaged { file: 0, at: 0 }),
+    }
+}
+
+/// Whether the header gate of the file that isn't in force is open.
+pub fn is_other_open(first: Gate, second: Gate, in_b: bool) -> bool
+    requires { in_force first second ≡ Ok in_b }
+    ensures other { BeginsOpen result (pick in_b second first) }
+    ensures in_force { BeginsOpen true (pick in_b first second) }
+{
+    match (in_b, first, second) {
+        (true, Gate::Opened(_), _) => true,
+        (true, _, _) => false,
+        (false, _, Gate::Opened(_)) => true,
+        (false, _, _) => false,
     }
 }

@@ -1,5 +1,6 @@
 ghost use Rattle.std.specs.Prelude.{◌≡◌, ◌<◌, ◌≤◌, ◌+◌, ◌^◌, length, take, drop, IfNone};
 ghost use Rattle.sig_json.specs.Checks.{first_failing};
+ghost use Rattle.sig_json.specs.declared.limits.TheConstants.{LAST_NUMBER};
 ghost use Rattle.sig_journal.specs.Layout as layout;
 ghost use Rattle.sig_journal.specs.Layout.{header_checks};
 
@@ -50,6 +51,7 @@ pub fn snapshot_length(bytes: &[u8]) -> usize
 pub fn wrong_field(bytes: &[u8], kind: Kind) -> Option<u64>
     ensures first { result ≡ first_failing (header_checks kind bytes.now) }
     ensures whole { IfNone result (35 + layout.snapshot_length bytes.now ≤ length bytes.now) }
+    ensures generation { IfNone result (layout.generation_of bytes.now ≤ LAST_NUMBER) }
 {
     if field(bytes, 1, 4) != MAGIC.as_slice() {
         return Some(1);

@@ -12,6 +12,9 @@
 //! opens that gate by a write of its own, and syncs. So no checksum is trusted: a torn write lies after a closed gate or is
 //! the gate alone.
 //!
+//! A checkpoint puts a snapshot in place of the records: it is written into the other file, which is then in force
+//! (`checkpoint`).
+//!
 //! A `Store` is the journal as a node holds it, with the moment at which it broke. A node changes its state by records alone: a
 //! record stands in the journal before it has its effect. So the state that a store stands for is found by taking its records
 //! up in order (`specs/Taking`), whatever the state is; each node says by a `Taking` how it takes one up.
@@ -27,6 +30,7 @@
 #![tactic(auto)]
 
 mod added;
+mod checkpoint;
 mod content;
 mod durable;
 mod fault;
@@ -45,6 +49,7 @@ mod records;
 mod store;
 mod threads;
 
+pub use checkpoint::CheckFault;
 pub use fault::LoadFault;
 pub use framed::{Framed, frame};
 pub use journal::{AppendFault, Journal};

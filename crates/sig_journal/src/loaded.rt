@@ -4,7 +4,7 @@ ghost use Rattle.sig_journal.specs.declared.fault.LoadFault.TheVariants.{Store};
 ghost use Rattle.sig_outside.specs.Disk.{Only};
 ghost use Rattle.sig_journal.specs.Journal.{store_with};
 ghost use Rattle.sig_journal.specs.Layout.{places_of};
-ghost use Rattle.sig_journal.specs.Loaded.{HasPlaces, found_view};
+ghost use Rattle.sig_journal.specs.Loaded.{HasPlaces, IsOf, found_view};
 ghost use Rattle.sig_journal.specs.OnlyRead.{OnlyRead};
 ghost use Rattle.sig_journal.specs.Opened.{LoadsAs, Opens};
 ghost use Rattle.sig_journal.specs.Store.{file_number, pick, tells};
@@ -73,6 +73,7 @@ fn opened<D: Disk>(written: D, other: D, kind: Kind, found: Found) -> Loaded<D>
     requires places { HasPlaces found }
     requires settled { Only (D.seen written) (D.may_leave written) × Only (D.seen other) (D.may_leave other) }
     requires told { IsTrue (D.told written) → IsTrue (D.told other) → store_with found.in_b kind (D.seen written) (D.seen other) ≡ Ok (found_view found) }
+    requires knows { IsOf D.told D.seen kind found written other }
     ensures files { (result.journal.written ≡ written) × (result.journal.other ≡ other) × (result.journal.in_b ≡ found.in_b) }
     ensures content { (result.store_id ≡ found.content.store_id) × (result.snapshot ≡ found.content.snapshot) × (result.records ≡ found.content.records) × (result.places ≡ found.content.places) }
     ensures file { result.file ≡ file_number found.in_b }
@@ -89,6 +90,9 @@ fn opened<D: Disk>(written: D, other: D, kind: Kind, found: Found) -> Loaded<D>
             records,
             end: content.end,
             broken: false,
+            generation: content.generation,
+            other_open: found.other_open,
+            store_id: content.store_id,
         },
         file: number_of(found.in_b),
         store_id: content.store_id,

@@ -24,7 +24,7 @@ impl<D: Disk> Model for Store<D> {
 }
 
 impl<D: Disk> Store<D> {
-    ghost use Rattle.sig_journal.specs.Journal.{IsAtRest};
+    ghost use Rattle.sig_journal.specs.Journal.{IsAtRest, SameFiles};
     ghost use Rattle.sig_journal.specs.Appended.{AppendCauses, HasRecord, LeavesRecord, WritesOne};
     ghost use Rattle.sig_journal.specs.Stored.{IsStored, SameJournal};
     ghost use Rattle.std.specs.Prelude.{OnOk};
@@ -48,6 +48,7 @@ impl<D: Disk> Store<D> {
         ensures ok { OnOk result (HasRecord D.told D.seen D.may_leave self.old self.new framed.now) }
         ensures leaves { LeavesRecord D.told D.seen D.moment D.left_since D.stop D.short self.old.journal self.new.journal framed.now result }
         ensures files { WritesOne D.told self.old.journal self.new.journal }
+        ensures keeps { SameFiles self.old.journal self.new.journal }
         ensures causes { AppendCauses D.faults self.old self.new framed.now turn result }
     {
         match self.journal.append(framed) {
@@ -67,6 +68,13 @@ impl<D: Disk> Store<D> {
         self.journal.records()
     }
 
+    /// The place after the last gate: so many bytes of the file in force have a meaning.
+    pub fn end(&self) -> u64
+        ensures { result ≡ self.now.journal.end }
+    {
+        self.journal.end()
+    }
+
     /// The number of the turn at which the store broke, none while it isn't broken.
     pub fn broken_at(&self) -> Option<u64>
         ensures at { result ≡ self.now.broken_at }
@@ -82,6 +90,7 @@ impl<D: Disk> Store<D> {
         ensures written_stays { OnlyRead D.told D.seen D.may_leave D.moment D.left_since D.faults self.old.journal.written self.new.journal.written }
         ensures other_stays { OnlyRead D.told D.seen D.may_leave D.moment D.left_since D.faults self.old.journal.other self.new.journal.other }
         ensures same { SameJournal self.old self.new }
+        ensures keeps { SameFiles self.old.journal self.new.journal }
     {
         self.journal.stop_after(calls, fill);
     }

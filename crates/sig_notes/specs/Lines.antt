@@ -5,6 +5,7 @@ use Rattle.sig_http.specs.declared.fault.HttpFault.TheVariants as http
 use Rattle.sig_http.specs.declared.fault.SendFault.TheVariants as sent
 use Rattle.sig_serving.specs.declared.link_end.LinkEnd.{LinkEnd}
 use Rattle.sig_serving.specs.declared.link_end.LinkEnd.TheVariants as ends
+use Rattle.sig_notes.specs.declared.held.Held.{Held}
 use Rattle.sig_notes.specs.declared.cause.PushCause.{PushCause}
 use Rattle.sig_notes.specs.declared.cause.PushCause.TheVariants as push
 use Rattle.sig_notes.specs.declared.cause.LinkCause.{LinkCause}
@@ -42,6 +43,7 @@ push_text push.NoGateway = codes "no_gateway"
 push_text push.Dial = codes "dial"
 push_text push.Link = codes "link"
 push_text push.NoResponse = codes "no_response"
+push_text push.Kept = codes "kept"
 push_text push.Memory = codes "memory"
 
 abbrev pub link_text : LinkCause → List ℕ
@@ -56,6 +58,17 @@ link_text link.Cut = codes "cut"
 link_text link.Link = codes "link"
 link_text link.Write = codes "write"
 link_text link.Memory = codes "memory"
+
+-- the word for how a link ended
+abbrev pub end_word : LinkEnd → List ℕ
+end_word ends.End = codes "end"
+end_word ends.Spent = codes "spent"
+end_word ends.Closed = codes "closed"
+end_word (ends.Http fault) = link_text (request_cause fault)
+end_word (ends.Sent sent.Link) = link_text link.Write
+end_word (ends.Sent sent.Stuck) = link_text link.Write
+end_word (ends.Sent sent.Memory) = link_text link.Memory
+end_word ends.Memory = link_text link.Memory
 
 abbrev pub end_text : EndCause → List ℕ
 end_text end.Done = codes "done"
@@ -73,10 +86,13 @@ abbrev pub or_dash : Option (List ℕ) → List ℕ
 or_dash None = codes "-"
 or_dash (Some name) = name
 
--- a transmitter that speaks for this issuer serves at this place over a journal of so many records
-abbrev pub serving : List ℕ → List ℕ → ℕ → ℕ → List ℕ
-serving issuer host port records =
-    codes "serving " ++ issuer ++ codes " on " ++ host ++ codes ":" ++ decimal port ++ codes ": " ++ decimal records ++ codes " records"
+-- a transmitter that speaks for this issuer serves at this place, and holds so many streams, which
+-- owe so many tokens together, and a journal of so many records
+abbrev pub serving : List ℕ → List ℕ → ℕ → Held → List ℕ
+serving issuer host port held =
+    codes "serving " ++ issuer ++ codes " on " ++ host ++ codes ":" ++ decimal port ++ codes ": "
+    ++ decimal held.streams ++ codes " streams, " ++ decimal held.owed ++ codes " owed, "
+    ++ decimal held.records ++ codes " records"
 
 -- a receiver that knows so many issuers serves at this place over a journal of so many tokens
 abbrev pub receiving : List ℕ → ℕ → ℕ → ℕ → List ℕ
@@ -91,12 +107,14 @@ ended cause = codes "ended " ++ end_text cause
 abbrev pub reported : List ℕ → ℕ → List ℕ → List ℕ
 reported stream number code = codes "refused " ++ stream ++ codes "." ++ decimal number ++ codes " " ++ code
 
--- a push of this stream's failed, or was answered by what settles nothing
-abbrev pub push_failed : List ℕ → PushCause → List ℕ
-push_failed stream cause = codes "push " ++ stream ++ codes " failed " ++ push_text cause
+-- of so many tokens that a stream was to be brought some are late, by this cause
+abbrev pub push_late : List ℕ → ℕ → ℕ → PushCause → List ℕ
+push_late stream late tokens cause =
+    codes "push " ++ stream ++ codes " late " ++ decimal late ++ codes " of " ++ decimal tokens ++ codes " " ++ push_text cause
 
-abbrev pub push_kept : List ℕ → List ℕ
-push_kept stream = codes "push " ++ stream ++ codes " kept"
+-- a stream that was late was brought so many tokens
+abbrev pub push_good : List ℕ → ℕ → List ℕ
+push_good stream tokens = codes "push " ++ stream ++ codes " good " ++ decimal tokens
 
 -- a token was refused that was pushed for this issuer, at this part of it
 abbrev pub refused_push : Option (List ℕ) → List ℕ → List ℕ → List ℕ

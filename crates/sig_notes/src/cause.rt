@@ -6,7 +6,7 @@ ghost use Rattle.sig_notes.specs.Lines as spec;
 use sig_http::{HttpFault, SendFault};
 use sig_serving::LinkEnd;
 
-/// Why a push settled nothing.
+/// Why a token was not settled that was to be pushed.
 #[derive(Clone, Copy, Debug, PartialEq, Eq)]
 pub enum PushCause {
     /// The token has no endpoint.
@@ -19,6 +19,8 @@ pub enum PushCause {
     Link,
     /// The link gave no response (RFC 9112).
     NoResponse,
+    /// The receiver answered by what settles nothing (RFC 8935, section 2.4).
+    Kept,
     /// Out of memory.
     Memory,
 }
@@ -84,6 +86,7 @@ impl PushCause {
             PushCause::Dial => "dial",
             PushCause::Link => "link",
             PushCause::NoResponse => "no_response",
+            PushCause::Kept => "kept",
             PushCause::Memory => "memory",
         }
     }
@@ -137,6 +140,20 @@ impl LinkCause {
             LinkCause::Write => "write",
             LinkCause::Memory => "memory",
         }
+    }
+}
+
+/// The word for how a link ended: that of its fault, where it ended by one.
+pub fn end_word(end: LinkEnd) -> &'static str
+    ensures { result.now ≡ spec.end_word end }
+{
+    match end {
+        LinkEnd::End => "end",
+        LinkEnd::Spent => "spent",
+        LinkEnd::Closed => "closed",
+        LinkEnd::Http(fault) => LinkCause::of_request(fault).as_str(),
+        LinkEnd::Sent(SendFault::Link | SendFault::Stuck) => LinkCause::Write.as_str(),
+        LinkEnd::Sent(SendFault::Memory) | LinkEnd::Memory => LinkCause::Memory.as_str(),
     }
 }
 

@@ -7,18 +7,21 @@
 //!     turn, outcome, cause --> line --> tell --> side --> standard error
 //! ```
 //!
-//! Promised: each line is the text of its definition (`specs/Lines`), and telling one changes nothing that a side tells. A line that there is no memory for is left out. Left out here: the time before a line, and how many lines of one
-//! topic are told, which the adapters of `sig_system` decide.
+//! Promised: each line is the text of its definition (`specs/Lines`), and telling one changes nothing that a side tells. A line
+//! that there is no memory for is left out. Left out here: the time before a line, and how many lines of one topic are told,
+//! which the adapters of `sig_system` decide.
 #![tactic(auto)]
 
 mod cause;
+mod held;
 mod lines;
 mod telling;
 mod threads;
 
-pub use cause::{EndCause, LinkCause, PushCause};
+pub use cause::{EndCause, LinkCause, PushCause, end_word};
+pub use held::Held;
 pub use lines::{
-    ended, link_ended, peer_status, push_failed, push_kept, receiving, refused_listed,
-    refused_push, reported, serving,
+    ended, link_ended, peer_status, push_good, push_late, receiving, refused_listed, refused_push,
+    reported, serving,
 };
 pub use telling::{tell, tell_end};

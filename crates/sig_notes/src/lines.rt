@@ -1,23 +1,23 @@
 //! The lines. Out of memory is the only error of each.
 
-ghost use Rattle.std.specs.Prelude.{◌≡◌, ◌++◌, IfOk, OnOk, decimal, string_bytes};
+ghost use Rattle.std.specs.Prelude.{◌≡◌, ◌++◌, IfOk, OnOk, codes, decimal, string_bytes};
 ghost use Rattle.std.specs.Option.{option_copied};
 ghost use Rattle.sig_notes.specs.Lines as spec;
 
-use crate::{EndCause, LinkCause, PushCause};
+use crate::{EndCause, Held, LinkCause, PushCause};
 use itoa::Buffer;
 use sig_json::{Memory, Text};
 use std::alloc::Global;
 
-/// A transmitter that speaks for this issuer serves at this host and port, over a journal of so many records.
+/// A transmitter that speaks for this issuer serves at this host and port, and holds this.
 pub fn serving(
     alloc: Global,
     issuer: &str,
     host: &str,
     port: u16,
-    records: u64,
+    held: Held,
 ) -> Result<Text, Memory>
-    ensures { IfOk result (λ line. line ≡ spec.serving issuer.now host.now port records) }
+    ensures { IfOk result (λ line. line ≡ spec.serving issuer.now host.now port held) }
 {
     let mut line = String::from_str(alloc, "serving ")?;
     line.push_str(issuer)?;
@@ -26,8 +26,7 @@ pub fn serving(
     line.push_str(":")?;
     push_number(&mut line, u64::from(port))?;
     line.push_str(": ")?;
-    push_number(&mut line, records)?;
-    line.push_str(" records")?;
+    push_held(&mut line, held)?;
     Ok(Text::from_string(line))
 }
 
@@ -75,24 +74,35 @@ pub fn reported(alloc: Global, stream: &str, number: u64, code: &str) -> Result<
     Ok(Text::from_string(line))
 }
 
-/// A push of this stream's failed by this cause.
-pub fn push_failed(alloc: Global, stream: &str, cause: PushCause) -> Result<Text, Memory>
-    ensures { IfOk result (λ line. line ≡ spec.push_failed stream.now cause) }
+/// Of so many tokens that this stream was to be brought so many are late, by this cause.
+pub fn push_late(
+    alloc: Global,
+    stream: &str,
+    late: u64,
+    tokens: u64,
+    cause: PushCause,
+) -> Result<Text, Memory>
+    ensures { IfOk result (λ line. line ≡ spec.push_late stream.now late tokens cause) }
 {
     let mut line = String::from_str(alloc, "push ")?;
     line.push_str(stream)?;
-    line.push_str(" failed ")?;
+    line.push_str(" late ")?;
+    push_number(&mut line, late)?;
+    line.push_str(" of ")?;
+    push_number(&mut line, tokens)?;
+    line.push_str(" ")?;
     line.push_str(cause.as_str())?;
     Ok(Text::from_string(line))
 }
 
-/// A push of this stream's was answered by what settles nothing.
-pub fn push_kept(alloc: Global, stream: &str) -> Result<Text, Memory>
-    ensures { IfOk result (λ line. line ≡ spec.push_kept stream.now) }
+/// This stream was late, and was brought so many tokens.
+pub fn push_good(alloc: Global, stream: &str, tokens: u64) -> Result<Text, Memory>
+    ensures { IfOk result (λ line. line ≡ spec.push_good stream.now tokens) }
 {
     let mut line = String::from_str(alloc, "push ")?;
     line.push_str(stream)?;
-    line.push_str(" kept")?;
+    line.push_str(" good ")?;
+    push_number(&mut line, tokens)?;
     Ok(Text::from_string(line))
 }
 
@@ -151,6 +161,21 @@ fn or_dash(name: Option<&Text>) -> &str
         Some(given) => given.as_str(),
         None => "-",
     }
+}
+
+// Puts last what a transmitter holds.
+fn push_held(line: &mut String, held: Held) -> Result<(), Memory>
+    ensures { OnOk result (string_bytes line.new ≡ string_bytes line.old
+        ++ decimal held.streams ++ codes " streams, " ++ decimal held.owed ++ codes " owed, "
+        ++ decimal held.records ++ codes " records") }
+{
+    push_number(line, held.streams)?;
+    line.push_str(" streams, ")?;
+    push_number(line, held.owed)?;
+    line.push_str(" owed, ")?;
+    push_number(line, held.records)?;
+    line.push_str(" records")?;
+    Ok(())
 }
 
 // Puts a number last.

@@ -15,5 +15,7 @@ invariant_of-result g c =
         other = c.requires.settled.1;
         stands = λ both. record { content = (found_view c.args.found).content; tells = c.requires.told both.0 both.1; ends = c.requires.places.ends; counts = counted };
       };
+      generation_fits = c.requires.places.generation_fits;
+      knows = λ whole. record { written = c.requires.knows.in_force; other = c.requires.knows.begins };
       counted = λ broken. absurd (false≢true broken);
     }

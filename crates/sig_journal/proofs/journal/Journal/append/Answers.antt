@@ -7,7 +7,7 @@ use Rattle.sig_journal.specs.declared.journal.AppendFault.{AppendFault}
 use Rattle.sig_journal.specs.declared.journal.AppendFault.TheVariants.{Store}
 use Rattle.sig_journal.specs.Journal.{BothTold, Open, image_store, store_with, told_store}
 use Rattle.sig_journal.specs.Store.{IsBeforeOrAfter, with_record}
-use Rattle.sig_journal.proofs.Appending.{after_told, before_told, either_told, failed_not_ok, from_ok, length-framed, not_failed_ok, rest_after, rests_map, tells_after}
+use Rattle.sig_journal.proofs.Appending.{after_told, before_told, either_told, failed_not_ok, from_ok, knows_after, length-framed, not_failed_ok, rest_after, rests_map, tells_after}
 use Rattle.sig_journal.proofs.Moments.{weaker}
 use Rattle.sig_journal.proofs.journal.Journal.append.Goals as goal
 
@@ -45,6 +45,9 @@ invariant_of-self-2 g c =
       places = record { records_fit = omega (arith, c.self.invariant.places.records_fit, ap length c.bytes.ensures.bytes, length-framed payload); end_fits = c.if-end-gt-LAST_NUMBER.false };
       rests = λ _. rest_after D.told D.seen D.may_leave _ payload file (c.self.inside.records + 1) (c.self.inside.end + length c.bytes.result.now) rest (from_ok c.add_record.result c.if-is_err.ensures.value c.add_record.ensures.durable)
           c.add_record.ensures.kind.0 (from_ok c.add_record.result c.if-is_err.ensures.value c.add_record.ensures.added) refl (ap (λ (l : List ℕ). c.self.inside.end + length l) c.bytes.ensures.bytes);
+      generation_fits = c.self.invariant.generation_fits;
+      knows = λ _. knows_after D.told D.seen D.may_leave _ payload file (c.self.inside.records + 1) (c.self.inside.end + length c.bytes.result.now)
+          c.add_record.ensures.kind.0 (from_ok c.add_record.result c.if-is_err.ensures.value c.add_record.ensures.added) (ap (λ (l : List ℕ). c.self.inside.end + length l) c.bytes.ensures.bytes) (c.self.invariant.knows not_broken);
       counted = λ broken. absurd (false≢true (sym not_broken ∙ broken));
     }
 

@@ -1,5 +1,4 @@
-use Rattle.std.proofs.Common.{◌≡◌, Ok, Err, Some, Result, ℕ, ap, subst, refl}
-use Rattle.sig_journal.specs.declared.journal.AppendFault.{AppendFault}
+use Rattle.std.proofs.Common.{Ok, Err, Some, ℕ, ap, subst, refl}
 use Rattle.sig_journal.specs.declared.journal.AppendFault.TheVariants.{Store, Full}
 use Rattle.sig_journal.specs.Journal.{Open}
 use Rattle.sig_journal.specs.Appended.{AppendCauses}
