@@ -95,6 +95,13 @@ impl Seen {
         self.pairs.len() as u64
     }
 
+    /// The pairs in order.
+    pub fn as_slice(&self) -> &[Pair]
+        ensures { result.now ≡ self.now.pairs }
+    {
+        self.pairs.as_slice()
+    }
+
     /// Whether both have the same pairs in the same order, whatever room each has for more.
     pub fn has_same_pairs(&self, other: &Seen) -> bool
         ensures { IsTrue result ↔ (self.now.pairs ≡ other.now.pairs) }

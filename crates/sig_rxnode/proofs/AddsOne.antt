@@ -30,6 +30,7 @@ pub adds_one : (trust : Trust) (state : Received) (c : RxCall) → AddsOne (chan
 adds_one trust state (call.Token principal named bytes) = ⊎_elim (λ none. inl none) (λ one. inr (bytes, one)) (one_heard (heard_at trust principal named state bytes) bytes)
 adds_one trust state (call.Verdict subject) = inl refl
 adds_one trust state (call.Rows from) = inl refl
+adds_one trust state call.Figures = inl refl
 
 -- ---- whether there is room for it
 
@@ -62,6 +63,7 @@ heard_fits (NotTaken code spot) = tt
 fits_page : (trust : Trust) (state : Received) (c : RxCall) → FitsPage (answer_of trust state c)
 fits_page trust state (call.Token principal named bytes) = heard_fits (heard_at trust principal named state bytes)
 fits_page trust state (call.Verdict subject) = tt
+fits_page trust state call.Figures = tt
 fits_page trust state (call.Rows from) =
     subst (λ (n : ℕ). n ≤ ROWS_PER_PAGE) (sym (length-take ROWS_PER_PAGE (drop from state.rows))) (min-le_left ROWS_PER_PAGE (length (drop from state.rows)))
 

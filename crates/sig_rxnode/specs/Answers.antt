@@ -18,11 +18,13 @@ heard_answer heard.Accepted = answer.Accepted
 heard_answer heard.Seen = answer.Seen
 heard_answer (heard.NotTaken code spot) = answer.Refused code spot
 
--- the answer to a call: a token by its judgement and the pairs that are known, a verdict and a page of rows by the session table
+-- the answer to a call: a token by its judgement and the pairs that are known, a verdict and a page of rows by the session table,
+-- and figures by how many pairs and rows there are
 abbrev pub answer_of : Trust → Received → RxCall → RxAnswer
 answer_of trust state (call.Token principal named bytes) = heard_answer (heard_at trust principal named state bytes)
 answer_of trust state (call.Verdict subject) = answer.Verdict (verdict_of state.rows subject)
 answer_of trust state (call.Rows from) = answer.Rows (take ROWS_PER_PAGE (drop from state.rows))
+answer_of trust state call.Figures = answer.Figures (length state.pairs) (length state.rows)
 
 -- an answer that the table gives to this call, by some settings and over something that is kept
 abbrev pub IsAnswerTo : RxCall → RxAnswer → Type 0
@@ -35,6 +37,7 @@ FitsPage answer.Seen = Unit {0}
 FitsPage (answer.Refused code spot) = Unit {0}
 FitsPage (answer.Verdict verdict) = Unit {0}
 FitsPage (answer.Rows rows) = length rows ≤ ROWS_PER_PAGE
+FitsPage (answer.Figures tokens rows) = Unit {0}
 
 -- the token text that is added to the journal where a token is valid and new, by trust, principal, name and what is kept, or none
 abbrev pub heard_texts : Trust → Option (List ℕ) → Option (List ℕ) → Received → List ℕ → List (List ℕ)
@@ -45,3 +48,4 @@ abbrev pub change_of : Trust → Received → RxCall → List (List ℕ)
 change_of trust state (call.Token principal named bytes) = heard_texts trust principal named state bytes
 change_of trust state (call.Verdict subject) = []
 change_of trust state (call.Rows from) = []
+change_of trust state call.Figures = []

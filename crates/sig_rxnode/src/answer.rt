@@ -25,6 +25,13 @@ pub enum RxAnswer {
     Verdict(Verdict),
     /// The rows of a page, at most 256.
     Rows(Items<Row>),
+    /// The figures of the whole receiver.
+    Figures {
+        /// How many tokens it took, each once.
+        tokens: u64,
+        /// How many rows the session table has.
+        rows: u64,
+    },
 }
 
 impl RxAnswer {
@@ -41,6 +48,10 @@ impl RxAnswer {
             }),
             RxAnswer::Verdict(verdict) => Ok(RxAnswer::Verdict(*verdict)),
             RxAnswer::Rows(rows) => Ok(RxAnswer::Rows(copy_items(alloc, rows)?)),
+            RxAnswer::Figures { tokens, rows } => Ok(RxAnswer::Figures {
+                tokens: *tokens,
+                rows: *rows,
+            }),
         }
     }
 
@@ -80,6 +91,13 @@ impl Same for RxAnswer {
             },
             RxAnswer::Rows(rows) => match other {
                 RxAnswer::Rows(theirs) => rows.same(theirs),
+                _ => false,
+            },
+            RxAnswer::Figures { tokens, rows } => match other {
+                RxAnswer::Figures {
+                    tokens: taken,
+                    rows: told,
+                } => *tokens == *taken && *rows == *told,
                 _ => false,
             },
         }

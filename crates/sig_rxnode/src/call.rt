@@ -26,6 +26,8 @@ pub enum RxCall {
         /// The place of its first row, counted from 0.
         from: u64,
     },
+    /// The figures of the whole receiver are read.
+    Figures,
 }
 
 impl RxCall {
@@ -47,6 +49,7 @@ impl RxCall {
                 subject: subject.copy(alloc)?,
             }),
             RxCall::Rows { from } => Ok(RxCall::Rows { from: *from }),
+            RxCall::Figures => Ok(RxCall::Figures),
         }
     }
 }
@@ -80,6 +83,7 @@ impl Same for RxCall {
                 RxCall::Rows { from: theirs } => *from == *theirs,
                 _ => false,
             },
+            RxCall::Figures => matches!(other, RxCall::Figures),
         }
     }
 }

@@ -4,7 +4,7 @@ ghost use Rattle.sig_receiver.specs.Receiver.{IsReady, committed, heard_at, rece
 ghost use Rattle.sig_json.specs.declared.limits.TheConstants.{ROWS_PER_PAGE};
 ghost use Rattle.sig_journal.specs.declared.node_fault.NodeFault.TheVariants as node_fault;
 ghost use Rattle.sig_rxnode.specs.Answers.{answer_of, change_of, heard_answer, heard_texts};
-ghost use Rattle.sig_rxnode.specs.declared.answer.RxAnswer.TheVariants.{Rows};
+ghost use Rattle.sig_rxnode.specs.declared.answer.RxAnswer.TheVariants.{Figures, Rows};
 ghost use Rattle.sig_rxnode.specs.Records.{receiving};
 
 use crate::recording::{Recorded, record_of};
@@ -73,6 +73,7 @@ impl<D: Disk> Journalled<D> {
                 })
             }
             RxCall::Rows { from } => page(self.receiver.table(), *from),
+            RxCall::Figures => Ok(figures(&self.receiver)),
         }
     }
 
@@ -161,6 +162,19 @@ impl<D: Disk> Journalled<D> {
                 Err(RxFault::of_append(fault))
             }
         }
+    }
+}
+
+// How many tokens were taken and how many rows there are, twice.
+fn figures(receiver: &Receiver) -> Told
+    ensures answer { result.answer ≡ Figures (length receiver.now.pairs) (length receiver.now.rows) }
+    ensures copy { result.copy ≡ result.answer }
+{
+    let tokens = receiver.seen().len();
+    let rows = receiver.rows().len() as u64;
+    Told {
+        answer: RxAnswer::Figures { tokens, rows },
+        copy: RxAnswer::Figures { tokens, rows },
     }
 }
 

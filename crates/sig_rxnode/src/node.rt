@@ -193,6 +193,13 @@ impl<D: Disk> RxNode<D> {
         self.kept.entries.len()
     }
 
+    /// How many bytes of the store's file in force have a meaning. It takes no memory.
+    pub fn bytes(&self) -> u64
+        ensures { result ≡ self.now.kept.store.journal.end }
+    {
+        self.kept.store.end()
+    }
+
     /// Both files, the first and the second. They stand for what is kept as the node's store did, and where the node is broken,
     /// one of them has counted a fault. It takes no memory.
     pub fn into_disks(self) -> (D, D)

@@ -56,6 +56,10 @@ are_distinct (r ∷ rows) = not (has_row r.subject rows) && are_distinct rows
 abbrev pub with_row : Subject → List Row → List Row
 with_row subject rows = if has_row subject rows then rows else rows ++ unseen subject ∷ []
 
+-- the rows with this one, which stands last where none is of its subject
+abbrev pub with_new_row : Row → List Row → List Row
+with_new_row row rows = if has_row row.subject rows then rows else rows ++ row ∷ []
+
 -- a row after an event
 abbrev pub changed : Event → Row → Row
 changed e r = with_state (state_after e (state_of r)) (level_after e r.level) r

@@ -15,7 +15,7 @@ use crate::update::Update;
 use sig_event::{Claims, Event};
 use sig_json::{Memory, Text};
 use sig_places::{Places, PlacesOf};
-use sig_subject::{covers, identical};
+use sig_subject::{Subject, covers, identical};
 use std::alloc::Global;
 
 /// What is found of the claims' subject among the rows: what becomes of those that it covers, and whether one is its own.
@@ -101,6 +101,45 @@ fn add_update(
         updates.push(update_of(alloc, place, row, claims.events.as_slice())?)?;
     }
     Ok(())
+}
+
+/// Whether a row is of the subject. The places are those of the rows. It takes no memory.
+pub(crate) fn is_known(rows: &[Row], places: &Places, subject: &Subject) -> bool
+    requires { places.now.entries ≡ entries_from 0 (subjects_of rows.now) }
+    ensures { result ≡ table.has_row subject.now rows.now }
+{
+    let (first, second) = covered_keys(places, subject);
+    let known = known_at(rows, places.of(first), subject, false);
+    known_second(rows, places, second, subject, known)
+}
+
+// Whether one was the subject's own, or a row under the second key is, where there is one.
+fn known_second(
+    rows: &[Row],
+    places: &Places,
+    key: Option<u64>,
+    subject: &Subject,
+    known: bool,
+) -> bool
+    ensures { result ≡ known_under subject.now rows.now places.now.entries key known }
+{
+    match key {
+        Some(key) => known_at(rows, places.of(key), subject, known),
+        None => known,
+    }
+}
+
+// Whether one was the subject's own, or a row at the places is.
+fn known_at(rows: &[Row], places: PlacesOf<'_>, subject: &Subject, known: bool) -> bool
+    ensures { result ≡ known_at subject.now rows.now places.entry known }
+{
+    let mut found = known;
+    for place in places {
+        if let Some(row) = rows.get(place) {
+            found = found || identical(&row.subject, subject);
+        }
+    }
+    found
 }
 
 /// The subject's new row as the claims leave it.

@@ -1,8 +1,8 @@
-ghost use Rattle.std.specs.Prelude.{◌≡◌, ◌↔◌, [], IfOk, IsTrue, drop, take, vec_len, vec_capacity};
+ghost use Rattle.std.specs.Prelude.{◌≡◌, ◌↔◌, [], IfOk, IsTrue, OnErr, drop, not, take, vec_len, vec_capacity};
 
 use crate::effects::have_effect;
 use crate::keys::key_count;
-use crate::preparing::{found_of, new_row};
+use crate::preparing::{found_of, is_known, new_row};
 use crate::row::copy_rows;
 use crate::{Change, Row, Verdict, verdict};
 use sig_event::Claims;
@@ -46,7 +46,7 @@ impl Model for Table {
 
 impl Table {
     ghost use Rattle.sig_sessions.specs.Changes.{IsReady, applied};
-    ghost use Rattle.sig_sessions.specs.Table.{effect};
+    ghost use Rattle.sig_sessions.specs.Table.{effect, has_row, with_new_row};
     ghost use Rattle.sig_sessions.specs.Verdicts.{verdict_of};
 
     /// No rows. It keeps the allocator and takes no memory.
@@ -86,6 +86,22 @@ impl Table {
         ensures { self.new.rows ≡ applied change self.old.rows }
     {
         change.take_in(&mut self.rows, &mut self.places);
+    }
+
+    /// Adds a row last as it is, unless one of its subject is there, and says whether it is new. After out of memory the
+    /// rows are as before.
+    pub fn put_row(&mut self, row: Row) -> Result<bool, Memory>
+        ensures new { IfOk result (λ is_new. is_new ≡ not (has_row row.subject self.old.rows)) }
+        ensures kept { IfOk result (λ is_new. self.new.rows ≡ with_new_row row self.old.rows) }
+        ensures err { OnErr result (self.new.rows ≡ self.old.rows) }
+    {
+        if is_known(self.rows.as_slice(), &self.places, &row.subject) {
+            return Ok(false);
+        }
+        self.rows.reserve(1)?;
+        self.places.make_room(key_count(&row.subject))?;
+        self.commit(Change::of(Vec::new(self.alloc), Some(row)));
+        Ok(true)
     }
 
     /// What the table says of a subject. It takes no memory.

@@ -1,0 +1,4 @@
+pub mod Once
+pub mod ItemLists
+pub mod Parts
+pub mod States
