@@ -6,7 +6,7 @@ use Rattle.std.proofs.lemmas.List.Elements.{filter-append}
 use Rattle.std.proofs.lemmas.Slice.Eq.{bytes_eq-Decides}
 use Rattle.sig_courier.specs.declared.attempt.Attempt.{Attempt}
 use Rattle.sig_courier.specs.declared.late.Late.{Late}
-use Rattle.sig_courier.specs.Waits.{after, next_wait, wait_after}
+use Rattle.sig_courier.specs.Waits.{after, counted, next_wait, wait_after}
 use Rattle.sig_courier.specs.Schedule.{IsLogged, Kept, attempts_of, late_after, late_in, lates}
 
 -- ---- the log
@@ -33,12 +33,18 @@ waits_on (suc n) = by (2 ^ n) (wait_after (suc n)) (pow_pos n) refl ∙ ap (λ m
     by p zero some is = omega (arith, some, is)
     by p (suc w) some is = omega (arith, is)
 
+counted_on : (n : ℕ) → counted (suc n) ≡ counted (counted n + 1)
+counted_on n = omega arith
+
 late_on : (a : Attempt) (attempts : List Attempt) → late_after (a ∷ attempts) ≡ after (late_after attempts) a.at a.good
 late_on a attempts = by a.good refl
   where
     by : (b : Bool) → a.good ≡ b → late_after (a ∷ attempts) ≡ after (late_after attempts) a.at b
     by true is = rw is refl
-    by false is = rw is (ap (λ w. record { due = a.at + w; wait = w }) (sym (waits_on (lates attempts))))
+    by false is =
+        rw is (ap (λ w. record { due = a.at + w; wait = w; row = counted (suc (lates attempts)); at = a.at }) (sym (waits_on (lates attempts)))
+        ∙ ap (λ n. record { due = a.at + next_wait (wait_after (lates attempts)); wait = next_wait (wait_after (lates attempts)); row = n; at = a.at })
+        (counted_on (lates attempts)))
 
 -- ---- both
 

@@ -3,7 +3,7 @@ use Rattle.std.specs.Prelude.{◌≡◌, ℕ, suc, ◌+◌, List, [], ◌∷◌,
 use Rattle.std.specs.Map.{lookup}
 use Rattle.sig_courier.specs.declared.attempt.Attempt.{Attempt}
 use Rattle.sig_courier.specs.declared.late.Late.{Late}
-use Rattle.sig_courier.specs.Waits.{not_late, wait_after}
+use Rattle.sig_courier.specs.Waits.{counted, not_late, wait_after}
 
 -- the attempts of a stream, the last one first
 abbrev pub attempts_of : List ℕ → List Attempt → List Attempt
@@ -22,9 +22,15 @@ due_after (last ∷ earlier) = if last.good then 0 else last.at + wait_after (su
 abbrev pub due : List Attempt → List ℕ → ℕ
 due log stream = due_after (attempts_of stream log)
 
+-- when the last one was made
+abbrev pub last_at : List Attempt → ℕ
+last_at [] = 0
+last_at (last ∷ earlier) = last.at
+
 -- how late a stream is after these attempts
 abbrev pub late_after : List Attempt → Late
-late_after attempts = record { due = due_after attempts; wait = wait_after (lates attempts) }
+late_after attempts =
+    record { due = due_after attempts; wait = wait_after (lates attempts); row = counted (lates attempts); at = last_at attempts }
 
 -- what is kept of streams, by their names
 abbrev pub Kept : Type 0

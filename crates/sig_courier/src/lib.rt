@@ -21,4 +21,5 @@ mod tests;
 mod threads;
 
 pub use attempt::Attempt;
+pub use late::Late;
 pub use schedule::Schedule;

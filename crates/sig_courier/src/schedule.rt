@@ -47,6 +47,13 @@ impl Schedule {
         self.late(stream).due
     }
 
+    /// How late each stream is of which something is kept, by its name.
+    pub fn lates(&self) -> &IndexMap<Text, Late>
+        ensures { result.now.entries ≡ self.now }
+    {
+        &self.lates
+    }
+
     /// Makes room for the notes of a stream's attempts. Out of memory is its only error, and comes only where there was no
     /// room. No attempt is noted, and streams for which there was room have it still.
     pub fn make_room(&mut self, stream: &Text) -> Result<(), Memory>

@@ -118,6 +118,7 @@ one_or_none trust state (call.Token principal named bytes) = by (text_or_none (h
     by (inr h) = inr (bytes, h)
 one_or_none trust state (call.Verdict subject) = inl refl
 one_or_none trust state (call.Rows from) = inl refl
+one_or_none trust state call.Figures = inl refl
 
 -- a broken node has no answer
 whole_before : {D : Type 0} (faults : D → ℕ) (c : RxCall) (old new : NodeView D) (r : Result RxAnswer NodeFault)

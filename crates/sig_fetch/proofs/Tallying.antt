@@ -32,6 +32,7 @@ call_counts : (trust : Trust) (state : Received) (c : RxCall) → length (change
 call_counts trust state (call.Token principal named bytes) = heard_counts (heard_at trust principal named state bytes) bytes
 call_counts trust state (call.Verdict subject) = refl
 call_counts trust state (call.Rows from) = refl
+call_counts trust state call.Figures = refl
 
 turn_counts : (trust : Trust) (state : Received) (c : RxCall) (r : Result RxAnswer NodeFault) → IfOk r (λ answer. answer ≡ answer_of trust state c) → length (when_ok r (change_of trust state c)) ≡ cond (was_accepted r) 1 0
 turn_counts trust state c (Ok a) is = call_counts trust state c ∙ ap (λ (x : RxAnswer). cond (was_accepted (Ok x)) 1 0) (sym is)

@@ -11,7 +11,7 @@ use Rattle.sig_set.specs.Spelled.{code_text}
 use Rattle.sig_delivery.specs.Asks.{ask_text}
 use Rattle.sig_journal.specs.declared.node_fault.NodeFault.{NodeFault}
 use Rattle.sig_rxnode.specs.declared.answer.RxAnswer.{RxAnswer}
-use Rattle.sig_rxnode.specs.declared.answer.RxAnswer.TheVariants.{Accepted, Seen, Refused, Verdict, Rows}
+use Rattle.sig_rxnode.specs.declared.answer.RxAnswer.TheVariants.{Accepted, Seen, Refused, Verdict, Rows, Figures}
 use Rattle.sig_rxnode.specs.declared.call.RxCall.{RxCall}
 use Rattle.sig_rxnode.specs.declared.call.RxCall.TheVariants as call
 use Rattle.sig_rxnode.specs.declared.rules.Peer.{Peer}
@@ -34,6 +34,7 @@ abbrev pub named_in : RxCall → Option (List ℕ)
 named_in (call.Token principal named bytes) = named
 named_in (call.Verdict subject) = None
 named_in (call.Rows from) = None
+named_in call.Figures = None
 
 -- a token was accepted, or had been seen
 abbrev pub is_taken : Result RxAnswer NodeFault → Bool
@@ -42,6 +43,7 @@ is_taken (Ok Seen) = true
 is_taken (Ok (Refused code spot)) = false
 is_taken (Ok (Verdict verdict)) = false
 is_taken (Ok (Rows rows)) = false
+is_taken (Ok (Figures tokens rows)) = false
 is_taken (Err fault) = false
 
 -- why a token was refused, where it was
@@ -51,6 +53,7 @@ refusal_in (Ok Seen) = None
 refusal_in (Ok (Refused code spot)) = Some code
 refusal_in (Ok (Verdict verdict)) = None
 refusal_in (Ok (Rows rows)) = None
+refusal_in (Ok (Figures tokens rows)) = None
 refusal_in (Err fault) = None
 
 -- a token that was taken is acknowledged by its identifier

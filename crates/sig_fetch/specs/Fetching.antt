@@ -89,6 +89,7 @@ was_accepted (Ok answer.Seen) = false
 was_accepted (Ok (answer.Refused code spot)) = false
 was_accepted (Ok (answer.Verdict verdict)) = false
 was_accepted (Ok (answer.Rows rows)) = false
+was_accepted (Ok (answer.Figures tokens rows)) = false
 was_accepted (Err fault) = false
 
 abbrev pub was_seen : Result RxAnswer NodeFault → Bool
@@ -97,6 +98,7 @@ was_seen (Ok answer.Seen) = true
 was_seen (Ok (answer.Refused code spot)) = false
 was_seen (Ok (answer.Verdict verdict)) = false
 was_seen (Ok (answer.Rows rows)) = false
+was_seen (Ok (answer.Figures tokens rows)) = false
 was_seen (Err fault) = false
 
 -- so many of these turns had each answer

@@ -1,5 +1,5 @@
 -- One exchange more after others.
-use Rattle.std.proofs.Common.{◌≡◌, ℕ, ◌+◌, Bool, false, List, [], ◌∷◌, ◌++◌, length, Option, Some, None, refl, sym, ap, subst, ◌∙◌, arith, append_assoc, append-nil}
+use Rattle.std.proofs.Common.{◌≡◌, ℕ, ◌+◌, false, List, [], ◌∷◌, ◌++◌, length, Option, Some, None, refl, sym, ap, subst, ◌∙◌, arith, append_assoc, append-nil}
 use Rattle.std.proofs.KnownBytes.{Appends-trans, Appends-nil}
 use Rattle.sig_http.specs.Message.{DecidesRequest, Whole}
 use Rattle.sig_links.specs.Views.{SideView}
@@ -48,14 +48,14 @@ module _ {Rules Call Turn Told : Type 0} (m : Meaning Rules Call Turn Told) wher
 
   module _ (rules : Rules) where
     texts_more : (before n : ℕ) (es : List (Exchange Turn)) (e : Exchange Turn) → n ≡ before + length es
-        → texts_from m rules before (es ++ e ∷ []) ≡ texts_from m rules before es ++ text_in m rules n e
+        → texts_from before (es ++ e ∷ []) ≡ texts_from before es ++ text_in n e
     texts_more before n [] e h =
         let same : before ≡ n = omega arith in
-        append-nil (text_in m rules before e) ∙ ap (λ k. text_in m rules k e) same
+        append-nil (text_in before e) ∙ ap (λ k. text_in k e) same
     texts_more before n (x ∷ es) e h =
         let later : n ≡ before + 1 + length es = omega arith in
-        ap (λ t. text_in m rules before x ++ t) (texts_more (before + 1) n es e later)
-        ∙ sym (append_assoc (text_in m rules before x) (texts_from m rules (before + 1) es) (text_in m rules n e))
+        ap (λ t. text_in before x ++ t) (texts_more (before + 1) n es e later)
+        ∙ sym (append_assoc (text_in before x) (texts_from (before + 1) es) (text_in n e))
 
     module _ (link : ℕ) where
       made_more : (a b c : SideView) (es : List (Exchange Turn)) (e : Exchange Turn) → AreMade m rules link a es b → MakesTurns m rules link e false b c
@@ -78,12 +78,12 @@ module _ {Rules Call Turn Told : Type 0} (m : Meaning Rules Call Turn Told) wher
           → Answered m rules link (length es) e false b c → Exchanges m rules link (es ++ e ∷ []) a c
       exchanges_more grows es e a b c h k =
           let turns : turns_of (es ++ e ∷ []) ≡ turns_of es ++ turns_in e = turns_more es e in
-          let texts : texts_from m rules 0 (es ++ e ∷ []) ≡ texts_from m rules 0 es ++ text_in m rules (length es) e = texts_more 0 (length es) es e (omega arith) in
+          let texts : texts_from 0 (es ++ e ∷ []) ≡ texts_from 0 es ++ text_in (length es) e = texts_more 0 (length es) es e (omega arith) in
           record {
             read = read_more (unread a) (unread b) (unread c) es e h.read k.read;
             makes = made_more a.desk.side b.desk.side c.desk.side es e h.makes k.handles.makes;
             adds = subst (λ (ts : List Turn). Adds m ts a.desk.turns c.desk.turns a.desk.told c.desk.told) (sym turns)
                 (adds_on grows (turns_of es) (turns_in e) a.desk.turns b.desk.turns c.desk.turns a.desk.told b.desk.told c.desk.told h.adds k.handles.adds);
-            says = subst (λ t. Says t a.line c.line) (sym texts) (says_more (texts_from m rules 0 es) (text_in m rules (length es) e) a.line b.line c.line h.says k.says);
+            says = subst (λ t. Says t a.line c.line) (sym texts) (says_more (texts_from 0 es) (text_in (length es) e) a.line b.line c.line h.says k.says);
             reads = k.reads ∙ h.reads;
           }

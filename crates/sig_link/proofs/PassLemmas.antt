@@ -84,7 +84,7 @@ module _ {Rules Call Turn Told : Type 0} (m : Meaning Rules Call Turn Told) (rul
   told_by request starved kept kept' line mid line' desk desk' read same count reads h = record {
     read = subst (λ (r : Request). IsRead (unread (moment kept line desk)) r (unread (moment kept' line' desk'))) (sym h.1) read;
     handles = h.2;
-    says = says_from (text_in m rules before h.0) line mid line' same count h.3;
+    says = says_from (text_in before h.0) line mid line' same count h.3;
     reads = reads;
   }
 
@@ -105,7 +105,8 @@ module _ {Rules Call Turn Told : Type 0} (m : Meaning Rules Call Turn Told) (rul
           e,
           record {
             begins = begins_by request e kept kept' line line' desk desk' read reads h.1.1 h.1.2;
-            breaks = breaks_from (text_in m rules before e) line mid line' same count h.1.3;
+            responds = h.1.3;
+            breaks = breaks_from (text_in before e) line mid line' same count h.1.4;
           },
         ),
       )

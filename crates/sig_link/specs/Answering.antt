@@ -1,10 +1,15 @@
 -- How what came of a request is told (RFC 9110, section 15): a refusal of the routes, or its turn.
-use Rattle.std.specs.Prelude.{ℕ, Bool, List, unwrap_or, Result, Ok, Err}
+use Rattle.std.specs.Prelude.{◌≡◌, ◌⊎◌, ℕ, Bool, List, unwrap_or, Result, Ok, Err, ⊤}
 use Rattle.sig_http.specs.Answering.{closing as closing_with, empty, refused_with}
 use Rattle.sig_http.specs.Spelling.{response_spelling}
 use Rattle.sig_http.specs.declared.message.Response.{Response}
 use Rattle.sig_journal.specs.declared.node_fault.NodeFault.{NodeFault}
 use Rattle.sig_journal.specs.declared.node_fault.NodeFault.TheVariants.{Store, Full, Memory}
+use Rattle.sig_serving.specs.Line.{Line, Sends}
+use Rattle.sig_serving.specs.Sending.{Responds}
+use Rattle.sig_serving.specs.Texts.{memory_text}
+use Rattle.sig_serving.specs.declared.link_end.LinkEnd.{LinkEnd}
+use Rattle.sig_serving.specs.declared.link_end.LinkEnd.TheVariants as ends
 use Rattle.sig_link.specs.Meaning.{Meaning}
 use Rattle.sig_link.specs.declared.course.Course.{Course}
 use Rattle.sig_link.specs.declared.course.Course.TheVariants.{Refused, Turned}
@@ -28,12 +33,17 @@ response_in reply (Err fault) = faulted fault
 abbrev pub closing : Bool → Response → Response
 closing close response = record response { close = close }
 
-module _ {Rules Call Turn Told : Type 0} (m : Meaning Rules Call Turn Told) (rules : Rules) where
-  -- what came of a request
-  abbrev pub response_to : Course Turn → Response
-  response_to (Refused refusal) = unwrap_or (refused_with refusal) starved
-  response_to (Turned turn) = m.response rules turn
+-- the text of a response
+unfoldable pub text_of : Bool → Response → List ℕ
+text_of close response = response_spelling (closing close response)
 
-  -- the text of the response to a request
-  unfoldable pub text_of : Bool → Course Turn → List ℕ
-  text_of close course = response_spelling (closing close (response_to course))
+module _ {Rules Call Turn Told : Type 0} (m : Meaning Rules Call Turn Told) (rules : Rules) where
+  -- a response to what came of a request
+  abbrev pub IsResponse : Course Turn → Response → Type 0
+  IsResponse (Refused refusal) response = response ≡ unwrap_or (refused_with refusal) starved
+  IsResponse (Turned turn) response = m.Responds rules turn response
+
+  -- one was written, whole or not; or memory ran out before there was one, and that was written
+  pub record IsAnswered (close : Bool) (course : Course Turn) (result : Result ⊤ LinkEnd) (old new : Line) : Type 0 where
+    pub comes : ((response : Response) × IsResponse course response × Responds (text_of close response) result old new)
+        ⊎ ((result ≡ Err ends.Memory) × Sends memory_text old new)

@@ -3,16 +3,18 @@ use Rattle.std.specs.Prelude.{◌≡◌, ℕ, ◌+◌, ◌<◌, ◌==◌, Bool, 
 use Rattle.sig_json.specs.declared.limits.TheConstants.{REQUESTS_PER_LINK}
 use Rattle.sig_http.specs.Message.{DecidesRequest, Whole}
 use Rattle.sig_http.specs.declared.message.Request.{Request}
+use Rattle.sig_http.specs.declared.message.Response.{Response}
 use Rattle.sig_links.specs.Views.{SideView}
-use Rattle.sig_link.specs.Answering.{text_of}
+use Rattle.sig_link.specs.Answering.{IsResponse, text_of}
 use Rattle.sig_link.specs.Course.{Comes, IsFollowed, own_turn}
 use Rattle.sig_link.specs.Meaning.{Meaning}
 use Rattle.sig_link.specs.declared.course.Course.{Course}
 
--- a request, what came of it, and the turns that followed
+-- a request, what came of it, the response to that, and the turns that followed
 pub record Exchange (Turn : Type 0) : Type 0 where
   pub request : Request
   pub course : Course Turn
+  pub response : Response
   pub more : List Turn
 
 -- ---- turns
@@ -27,10 +29,11 @@ turns_of [] = []
 turns_of (e ∷ es) = turns_in e ++ turns_of es
 
 module _ {Rules Call Turn Told : Type 0} (m : Meaning Rules Call Turn Told) (rules : Rules) (link : ℕ) where
-  -- what came of a request, and then what followed, in which memory ran out or not
+  -- what came of a request, the response to it, and then what followed, in which memory ran out or not
   pub record MakesTurns (e : Exchange Turn) (starved : Bool) (old new : SideView) : Type 0 where
     pub between : SideView
     pub comes : Comes m rules link e.request e.course old between
+    pub responds : IsResponse m rules e.course e.response
     pub follows : IsFollowed m rules e.course e.more starved between new
 
   -- one request did so after another, and memory ran out in none
@@ -44,15 +47,14 @@ module _ {Rules Call Turn Told : Type 0} (m : Meaning Rules Call Turn Told) (rul
 abbrev pub closes_after : ℕ → Request → Bool
 closes_after before request = request.close || ((before + 1) == REQUESTS_PER_LINK)
 
-module _ {Rules Call Turn Told : Type 0} (m : Meaning Rules Call Turn Told) (rules : Rules) where
-  -- the response to a request after so many others
-  abbrev pub text_in : ℕ → Exchange Turn → List ℕ
-  text_in before e = text_of m rules (closes_after before e.request) e.course
+-- the response to a request after so many others
+abbrev pub text_in : {Turn : Type 0} → ℕ → Exchange Turn → List ℕ
+text_in before e = text_of (closes_after before e.request) e.response
 
-  -- the responses to requests after so many others, in order
-  abbrev pub texts_from : ℕ → List (Exchange Turn) → List ℕ
-  texts_from before [] = []
-  texts_from before (e ∷ es) = text_in before e ++ texts_from (before + 1) es
+-- the responses to requests after so many others, in order
+abbrev pub texts_from : {Turn : Type 0} → ℕ → List (Exchange Turn) → List ℕ
+texts_from before [] = []
+texts_from before (e ∷ es) = text_in before e ++ texts_from (before + 1) es
 
 -- ---- requests
 

@@ -15,8 +15,8 @@ pub record Meaning (Rules Call Turn Told : Type 0) : Type 1 where
   pub Tries : SideView → SideView → Type 0
   -- what the taker tells is longer by just these turns
   pub Grew : Told → Told → List Turn → Type 0
-  -- the response to a turn
-  pub response : Rules → Turn → Response
+  -- a response to a turn, which may tell beside it what was counted
+  pub Responds : Rules → Turn → Response → Type 0
   -- these turns follow a turn whose response was written whole, and do so to the side; and memory runs out then, or not
   pub Follows : Rules → Turn → List Turn → Bool → SideView → SideView → Type 0
 

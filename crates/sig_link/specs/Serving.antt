@@ -11,6 +11,7 @@ use Rattle.sig_serving.specs.Line.{Breaks, Line, Says, Sends}
 use Rattle.sig_serving.specs.Texts.{memory_text, refusal_text}
 use Rattle.sig_serving.specs.declared.link_end.LinkEnd.{LinkEnd}
 use Rattle.sig_serving.specs.declared.link_end.LinkEnd.TheVariants.{End, Spent, Closed, Http, Sent, Memory}
+use Rattle.sig_link.specs.Answering.{IsResponse}
 use Rattle.sig_link.specs.Course.{Adds, Comes, own_turn}
 use Rattle.sig_link.specs.Exchange.{AreMade, AreRead, CloseAtLast, Exchange, GoesOn, IsRead, MakesTurns, StayOpen, text_in, texts_from, turns_in, turns_of}
 use Rattle.sig_link.specs.Meaning.{Meaning}
@@ -68,13 +69,14 @@ module _ {Rules Call Turn Told : Type 0} (m : Meaning Rules Call Turn Told) (rul
   -- a prefix of its response was written, since a write failed; nothing follows
   pub record Cut (before : ℕ) (e : Exchange Turn) (old new : Moment Turn Told) : Type 0 where
     pub begins : Begins e old new
-    pub breaks : Breaks (text_in m rules before e) old.line new.line
+    pub responds : IsResponse m rules e.course e.response
+    pub breaks : Breaks (text_in before e) old.line new.line
 
   -- its response was written whole, after so many others, and then what follows was done
   pub record Answered (before : ℕ) (e : Exchange Turn) (starved : Bool) (old new : Moment Turn Told) : Type 0 where
     pub read : IsRead (unread old) e.request (unread new)
     pub handles : Handles e starved old.desk new.desk
-    pub says : Says (text_in m rules before e) old.line new.line
+    pub says : Says (text_in before e) old.line new.line
     pub reads : new.line.reads ≡ old.line.reads
 
   -- ---- the exchanges of a link
@@ -84,7 +86,7 @@ module _ {Rules Call Turn Told : Type 0} (m : Meaning Rules Call Turn Told) (rul
     pub read : AreRead (unread old) es (unread new)
     pub makes : AreMade m rules link old.desk.side es new.desk.side
     pub adds : Adds m (turns_of es) old.desk.turns new.desk.turns old.desk.told new.desk.told
-    pub says : Says (texts_from m rules 0 es) old.line new.line
+    pub says : Says (texts_from 0 es) old.line new.line
     pub reads : new.line.reads ≡ old.line.reads
 
   -- ---- how it ends
@@ -142,7 +144,7 @@ module _ {Rules Call Turn Told : Type 0} (m : Meaning Rules Call Turn Told) (rul
   -- its response was written whole, and then what follows was done
   abbrev pub IsTold : ℕ → Request → Bool → Line → Line → Desk Turn Told → Desk Turn Told → Type 0
   IsTold before request starved line line' desk desk' =
-      (e : Exchange Turn) × (e.request ≡ request) × Handles e starved desk desk' × Says (text_in m rules before e) line line'
+      (e : Exchange Turn) × (e.request ≡ request) × Handles e starved desk desk' × Says (text_in before e) line line'
 
   -- memory ran out before: no turn was kept, or that of the request
   abbrev pub IsStarved : Request → Line → Line → Desk Turn Told → Desk Turn Told → Type 0
@@ -154,7 +156,8 @@ module _ {Rules Call Turn Told : Type 0} (m : Meaning Rules Call Turn Told) (rul
   AnswersBy before request None line line' desk desk' = IsTold before request false line line' desk desk' × (request.close ≡ false)
   AnswersBy before request (Some Closed) line line' desk desk' = IsTold before request false line line' desk desk' × (request.close ≡ true)
   AnswersBy before request (Some (Sent fault)) line line' desk desk' =
-      (fault ≡ sends.Link) × ((e : Exchange Turn) × (e.request ≡ request) × Takes e desk desk' × Breaks (text_in m rules before e) line line')
+      (fault ≡ sends.Link)
+      × ((e : Exchange Turn) × (e.request ≡ request) × Takes e desk desk' × IsResponse m rules e.course e.response × Breaks (text_in before e) line line')
   AnswersBy before request (Some Memory) line line' desk desk' =
       IsStarved request line line' desk desk' ⊎ IsTold before request true line line' desk desk'
   AnswersBy before request (Some End) line line' desk desk' = ⊥

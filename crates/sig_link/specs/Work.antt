@@ -1,5 +1,5 @@
 -- What a link came to so far, from one call to another.
-use Rattle.std.specs.Prelude.{◌≡◌, ◌<◌, List, vec_capacity, vec_len}
+use Rattle.std.specs.Prelude.{◌≡◌, ◌<◌, vec_capacity, vec_len}
 use Rattle.sig_links.specs.Views.{SideView}
 use Rattle.sig_serving.specs.Line.{Line}
 use Rattle.sig_link.specs.Moment.{Moment, desk_of, moment}

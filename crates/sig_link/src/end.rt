@@ -12,7 +12,7 @@ use std::sync::Wait;
 
 /// What an end, a transmitter or a receiver, is to the links that it serves.
 ///
-/// Its `meaning` is the call of a request, the turn of a call, the response to a turn, and what follows it. `told` is what a
+/// Its `meaning` is the call of a request, the turn of a call, the responses to a turn, and what follows it. `told` is what a
 /// taker tells of its turns, and `proper` holds of the calls that requests make.
 pub trait End {
     /// What calls are asked of, one turn after another.
@@ -61,9 +61,21 @@ pub trait End {
         ensures memory { OnErr result (told taker.new ≡ told taker.old) }
         ensures tries { OnErr result (meaning.Tries (S.view side.old) (S.view side.new)) };
 
-    /// The response to a turn. It leaves the link open.
-    fn response(alloc: Global, rules: &Self::Rules, turn: &Self::Turn) -> Result<Response, Memory>
-        ensures { IfOk result (λ response. response ≡ meaning.response rules.now turn.now) };
+    /// The response to a turn; what was counted, which it may tell beside the turn's answer, it asks the taker. It leaves the
+    /// link open.
+    fn response<R: Wait>(
+        alloc: Global,
+        rt: &R,
+        taker: &mut Self::Taker,
+        rules: &Self::Rules,
+        turn: &Self::Turn,
+    ) -> Result<Response, Memory>
+        ensures responds { IfOk result (λ response. meaning.Responds rules.now turn.now response) }
+        ensures told { told taker.new ≡ told taker.old };
+
+    /// Counts a request that is answered with this status, which is no turn.
+    fn count<R: Wait>(rt: &R, taker: &mut Self::Taker, request: &Request, status: u16)
+        ensures { told taker.new ≡ told taker.old };
 
     /// Keeps a turn last, for which there is room, once its response was written whole, and then does what follows it. It may
     /// wait as a turn may.

@@ -160,7 +160,8 @@ fn answer<E: End, R: Wait, L: Link, S: Side>(
         Ok(course) => course,
         Err(Memory) => return Some(run_out(stream)),
     };
-    match respond::<E, L>(work.alloc, rules, stream, &course, close) {
+    let alloc = work.alloc;
+    match respond::<E, R, L>(alloc, rt, taker, rules, stream, request, &course, close) {
         Ok(()) => {
             let starved = follow::<E, R, S>(rt, taker, rules, side, work, course).is_err();
             end_after(request, starved)

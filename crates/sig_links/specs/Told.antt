@@ -134,19 +134,19 @@ IsShut coming = IfSome coming (λ list. list ≡ [])
 abbrev pub IfLink : {L S : Type 0} → Accepted L S → (L → S → Type 0) → Type 0
 IfLink (Link link side) holds = holds link side
 IfLink Shut holds = Unit {0}
-IfLink Waited holds = Unit {0}
+IfLink (Waited lacking) holds = Unit {0}
 
 -- this holds where an accept said that none will come
 abbrev pub IfShut : {L S : Type 0} → Accepted L S → Type 0 → Type 0
 IfShut (Link link side) holds = Unit {0}
 IfShut Shut holds = holds
-IfShut Waited holds = Unit {0}
+IfShut (Waited lacking) holds = Unit {0}
 
 -- this holds where no link came in the time that an accept waits
 abbrev pub IfWaited : {L S : Type 0} → Accepted L S → Type 0 → Type 0
 IfWaited (Link link side) holds = Unit {0}
 IfWaited Shut holds = Unit {0}
-IfWaited Waited holds = holds
+IfWaited (Waited lacking) holds = holds
 
 -- the next of the doors that are told was handed out
 abbrev pub OpensNext : Option (List (List Coming)) → Option (List (List Coming)) → Option (List Coming) → Type 0

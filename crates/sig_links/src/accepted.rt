@@ -5,6 +5,6 @@ pub enum Accepted<L, S> {
     Link { link: L, side: S },
     /// No further link will come.
     Shut,
-    /// No link came in the time that an accept waits.
-    Waited,
+    /// No link came in the time that an accept waits; or the system lacks something for a while that an accept needs.
+    Waited { lacking: bool },
 }

@@ -22,7 +22,7 @@ pub trait Door {
 
     /// The next link, with its side. Nothing is written to the link and nothing is sent by the side yet, and neither has met
     /// a fault. `Shut` comes where no further link will come, and `Waited` where none came in the time that an accept waits,
-    /// which a door never answers that tells what is coming. `Failed` raises the count by one, and takes none of the links
+    /// or the system lacks something for a while, which a door never answers that tells what is coming. `Failed` raises the count by one, and takes none of the links
     /// that are coming.
     fn accept(&mut self) -> Result<Accepted<Self::L, Self::S>, Failed>
         ensures next { IfOk result (λ answer. IfLink answer (λ link side. AcceptsNext (view self.old).coming (view self.new).coming (plan link) (Self.L.left link) (Self.S.view side).ahead (Self.S.view side).times)) }

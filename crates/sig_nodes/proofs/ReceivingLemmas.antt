@@ -116,6 +116,7 @@ change_shape rules texts (call.Token principal named bytes) = by_heard (heard_at
     by_heard (heard.NotTaken code spot) = inl refl
 change_shape rules texts (call.Verdict subject) = inl refl
 change_shape rules texts (call.Rows from) = inl refl
+change_shape rules texts call.Figures = inl refl
 
 module _ (rules : RxRules) (name : List ℕ) (texts : List (List ℕ)) (c : RxCall) (old : NodeView Kept) (at : RxAt rules name old texts) where
   told_is : answer_of old.rules.trust old.kept.state c ≡ rx_told rules texts c

@@ -5,15 +5,17 @@
 //! ```text
 //!     <settings> -> bytes -> rules, place -> given back
 //!     <store> -> <store>.a, <store>.b -> node
-//!     receive: place -> door -> watch, watch, .. -> door given back -> files given back -> end
-//!     fetch:   side -> round, round, .. -> side given back -> files given back -> end
+//!     receive: place -> door -> node -> watch, watch, .. -> files given back, door given back -> end
+//!     fetch:   node -> side -> round, round, .. -> side given back -> files given back -> end
 //! ```
 //!
-//! It stands on `sig_opening` for what is opened and given back, on `sig_rxsettings` for the settings, on `sig_rxnode` for the
-//! node over a store, on `sig_rxend` for a watch, and on `sig_fetch` for the rounds. Promised: each end has its cause, by
-//! the outside's counts or by what the settings and the store tell; what is opened is given back before the end, on every
-//! path; and where the store is told, what is put back tells what it told before with the token texts of this run, which are
-//! those of the turns of its links or of its rounds. Left out: that links are served at the same time, which no contract
+//! It stands on `sig_opening` for what is opened and given back, on `sig_rxsettings` for the
+//! settings, on `sig_rxnode` for the node over a store, on `sig_rxend` for a watch, and on
+//! `sig_fetch` for the rounds. Promised: each end has its cause, by the outside's counts or by what
+//! the settings and the store tell; where `receive` opens no door, the store is as it was; what is
+//! opened is given back before the end, on every path; and where the store is told, what is put
+//! back tells what it told before with the token texts of this run, which are those of the turns of
+//! its links or of its rounds. Left out: that links are served at the same time, which no contract
 //! can say, and that a link or a token comes.
 #![tactic(auto)]
 

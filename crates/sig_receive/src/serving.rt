@@ -1,16 +1,13 @@
 //! A run from the settings to the end.
 
-ghost use Rattle.std.specs.Prelude.{◌≡◌, ◌≢◌, ℕ, List, None};
+ghost use Rattle.std.specs.Prelude.{◌≡◌, ◌≢◌, ◌<◌, ℕ, List};
 ghost use Rattle.sig_init.specs.Files.{KeepsBut, StaysTold, file_a, file_b};
-ghost use Rattle.sig_opening.specs.Door.{doors_of};
-ghost use Rattle.sig_opening.specs.Ends.{BreaksAfter};
 ghost use Rattle.sig_opening.specs.Files.{LackOne};
-ghost use Rattle.sig_opening.specs.Serving.{UnlessThere, around};
+ghost use Rattle.sig_opening.specs.Serving.{UnlessThereAt, UnlessThereIn, around, at_door};
 ghost use Rattle.sig_opening.specs.Stays.{KeepsOtherSettings};
 ghost use Rattle.sig_outside.specs.Causes.{Rose};
-ghost use Rattle.sig_receive.specs.Door.{ServesAt};
 ghost use Rattle.sig_receive.specs.Ends.{AreRefused, IsDamaged};
-ghost use Rattle.sig_receive.specs.Serving.{Serves, ServesBy};
+ghost use Rattle.sig_receive.specs.Serving.{Serves, ServesAt, ServesBy, UnlessThereBy};
 
 use crate::ServeEnd;
 use crate::noting::run_watches;
@@ -19,20 +16,21 @@ use crate::watches::Served;
 use sig_init::{FileNames, file_names};
 use sig_links::Outside;
 use sig_opening::{give_back, open};
-use sig_outside::Place;
 use sig_rxend::Receiver;
-use sig_rxnode::RxNode;
 use sig_rxsettings::RxSettings;
 use std::alloc::Global;
 use std::sync::Wait;
 use std::thread::Threads;
 
-/// Serves a receiver: reads the settings of this name, loads the store of this name, opens the door at the settings'
-/// listening place, and runs so many watches, or fewer where a watch reports that the door is shut, where the door or the
-/// store fails, or where memory runs out. It may wait for the door and the links.
+/// Serves a receiver: reads the settings of this name, opens the door at the settings' listening
+/// place, loads the store of this name, and runs so many watches, or fewer where a watch reports that
+/// the door is shut, where the door or the store fails, or where memory runs out. It may wait for the
+/// door and the links.
 ///
-/// The settings are read first, then the store is opened, whose files have to be there, then the door; what was opened is given
-/// back before the end, the settings as soon as they are read.
+/// The settings are read first, then the door is opened, then the store, whose files have to be there.
+/// So a second server at the same place loads nothing, and links that come while a large store is
+/// loaded can wait at the door. What was opened is given back before the end, the settings as soon as
+/// they are read, and the door last.
 pub fn receive<R: Threads + Wait + Sync, X: Outside>(
     alloc: Global,
     rt: &R,
@@ -49,14 +47,15 @@ pub fn receive<R: Threads + Wait + Sync, X: Outside>(
     ensures damaged { (file at : ℕ) → result ≡ ServeEnd.Damaged file at → IsDamaged (X.held outside.old (file_a store.now)) (X.held outside.old (file_b store.now)) file at }
     ensures network_failed { result ≡ ServeEnd.NetworkFailed → Rose (X.network_faults outside.old) (X.network_faults outside.new) }
 
-    // The watches, from the store that was opened to the one that is put back.
+    // No door, or a door and no watch, or the watches from the store that was opened to the one that is put back.
     ensures serves { ServesBy (X.settings_of outside.old settings.now) result watches
         (around X.held X.doors X.doors_back (file_a store.now) (file_b store.now) outside.old)
         (around X.held X.doors X.doors_back (file_a store.now) (file_b store.now) outside.new) }
 
     // No file is made. Where one of the store isn't there, no watch begins.
     ensures there { X.there outside.new ≡ X.there outside.old }
-    ensures missing { UnlessThere (X.there outside.old (file_a store.now)) (X.there outside.old (file_b store.now)) result
+    ensures missing { UnlessThereBy (X.settings_of outside.old settings.now)
+        (X.there outside.old (file_a store.now)) (X.there outside.old (file_b store.now)) result
         (around X.held X.doors X.doors_back (file_a store.now) (file_b store.now) outside.old)
         (around X.held X.doors X.doors_back (file_a store.now) (file_b store.now) outside.new) }
 
@@ -76,7 +75,7 @@ pub fn receive<R: Threads + Wait + Sync, X: Outside>(
     }
 }
 
-// Serves the store of these files by these settings.
+// Serves the store of these files by these settings, at a door of their place, which is given back.
 fn serve_store<R: Threads + Wait + Sync, X: Outside>(
     alloc: Global,
     rt: &R,
@@ -96,7 +95,8 @@ fn serve_store<R: Threads + Wait + Sync, X: Outside>(
         (around X.held X.doors X.doors_back names.now.a names.now.b outside.old)
         (around X.held X.doors X.doors_back names.now.a names.now.b outside.new) }
     ensures there { X.there outside.new ≡ X.there outside.old }
-    ensures missing { UnlessThere (X.there outside.old names.now.a) (X.there outside.old names.now.b) result
+    ensures missing { UnlessThereIn said.listen
+        (X.there outside.old names.now.a) (X.there outside.old names.now.b) result
         (around X.held X.doors X.doors_back names.now.a names.now.b outside.old)
         (around X.held X.doors X.doors_back names.now.a names.now.b outside.new) }
     ensures back { StaysTold (X.held outside.old) (X.held outside.new) names.now.a × StaysTold (X.held outside.old) (X.held outside.new) names.now.b }
@@ -104,44 +104,62 @@ fn serve_store<R: Threads + Wait + Sync, X: Outside>(
     ensures settings { X.settings_of outside.new ≡ X.settings_of outside.old }
     ensures sides { (X.sides outside.new ≡ X.sides outside.old) × (X.sides_out outside.new ≡ X.sides_out outside.old) × (X.sides_back outside.new ≡ X.sides_back outside.old) }
 {
+    match outside.door(&said.listen) {
+        Ok(door) => {
+            let mut door = door;
+            let end = serve_at(alloc, rt, said, names, watches, &mut door, outside);
+            outside.back_door(door);
+            end
+        }
+        Err(_) => ServeEnd::NetworkFailed,
+    }
+}
+
+// Serves the store of these files by these settings, at this door.
+fn serve_at<R: Threads + Wait + Sync, X: Outside>(
+    alloc: Global,
+    rt: &R,
+    said: RxSettings,
+    names: &FileNames,
+    watches: u64,
+    door: &mut X::A,
+    outside: &mut X,
+) -> ServeEnd
+    requires apart { names.now.a ≢ names.now.b }
+    ensures no_store { result ≡ ServeEnd.NoStore
+        → LackOne (X.there outside.old names.now.a) (X.there outside.old names.now.b) }
+    ensures store_failed { result ≡ ServeEnd.StoreFailed
+        → Rose (X.store_faults outside.old) (X.store_faults outside.new) }
+    ensures damaged { (file at : ℕ) → result ≡ ServeEnd.Damaged file at
+        → IsDamaged (X.held outside.old names.now.a) (X.held outside.old names.now.b) file at }
+    ensures network_failed { result ≡ ServeEnd.NetworkFailed → 0 < (X.A.view door.new).faults }
+    ensures serves { ServesAt said.rules result watches
+        (at_door X.held names.now.a names.now.b outside.old (X.A.view door.old))
+        (at_door X.held names.now.a names.now.b outside.new (X.A.view door.new)) }
+    ensures there { X.there outside.new ≡ X.there outside.old }
+    ensures missing { UnlessThereAt
+        (X.there outside.old names.now.a) (X.there outside.old names.now.b) result
+        (at_door X.held names.now.a names.now.b outside.old (X.A.view door.old))
+        (at_door X.held names.now.a names.now.b outside.new (X.A.view door.new)) }
+    ensures back { StaysTold (X.held outside.old) (X.held outside.new) names.now.a
+        × StaysTold (X.held outside.old) (X.held outside.new) names.now.b }
+    ensures others { KeepsBut names.now.a names.now.b (X.held outside.old) (X.held outside.new) }
+    ensures settings { X.settings_of outside.new ≡ X.settings_of outside.old }
+    ensures doors { (X.doors outside.new ≡ X.doors outside.old)
+        × (X.doors_out outside.new ≡ X.doors_out outside.old)
+        × (X.doors_back outside.new ≡ X.doors_back outside.old) }
+    ensures sides { (X.sides outside.new ≡ X.sides outside.old)
+        × (X.sides_out outside.new ≡ X.sides_out outside.old)
+        × (X.sides_back outside.new ≡ X.sides_back outside.old) }
+    ensures network { X.network_faults outside.new ≡ X.network_faults outside.old }
+{
     let RxSettings { rules, listen } = said;
     match open::<Receiver<X::D>, X>(alloc, rules, names, outside) {
         Ok(node) => {
-            let Served { node, end } = serve_at(alloc, rt, node, &listen, watches, outside);
+            let Served { node, end } = run_watches(alloc, rt, node, &listen, watches, door);
             give_back::<Receiver<X::D>, X>(node, names, outside);
             end
         }
         Err(cause) => ServeEnd::of_unopened(cause),
-    }
-}
-
-// Serves a node at a door of this place, which is given back.
-fn serve_at<R: Threads + Wait + Sync, X: Outside>(
-    alloc: Global,
-    rt: &R,
-    node: RxNode<X::D>,
-    place: &Place,
-    watches: u64,
-    outside: &mut X,
-) -> Served<X::D>
-    requires { node.kept.store.broken_at ≡ None }
-    ensures serves { ServesAt X.D.told place.now result.end watches (doors_of (X.doors outside.old) (X.doors_back outside.old)) (doors_of (X.doors outside.new) (X.doors_back outside.new)) node result.node }
-    ensures breaks { BreaksAfter result.end result.node.kept.store.broken_at }
-    ensures network { result.end ≡ ServeEnd.NetworkFailed → Rose (X.network_faults outside.old) (X.network_faults outside.new) }
-    ensures stores { (X.held outside.new ≡ X.held outside.old) × (X.lent outside.new ≡ X.lent outside.old) × (X.store_faults outside.new ≡ X.store_faults outside.old) × (X.there outside.new ≡ X.there outside.old) }
-    ensures settings { X.settings_of outside.new ≡ X.settings_of outside.old }
-    ensures sides { (X.sides outside.new ≡ X.sides outside.old) × (X.sides_out outside.new ≡ X.sides_out outside.old) × (X.sides_back outside.new ≡ X.sides_back outside.old) }
-{
-    match outside.door(place) {
-        Ok(door) => {
-            let mut door = door;
-            let served = run_watches(alloc, rt, node, place, watches, &mut door);
-            outside.back_door(door);
-            served
-        }
-        Err(_) => Served {
-            node,
-            end: ServeEnd::NetworkFailed,
-        },
     }
 }

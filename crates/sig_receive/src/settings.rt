@@ -10,9 +10,10 @@ ghost use Rattle.sig_receive.specs.Ends.{Says};
 use sig_links::Outside;
 use sig_opening::{Unread, bytes_from};
 use sig_rxsettings::{RxSettings, rx_settings};
+use sig_stray::{ObjectKind, tell_strays};
 use std::alloc::Global;
 
-/// Reads the settings with this name, and gives their source back.
+/// Reads the settings with this name, and gives their source back. Members of them that nothing is taken of are told by lines.
 pub fn settings_from<X: Outside>(
     alloc: Global,
     name: &str,
@@ -28,10 +29,14 @@ pub fn settings_from<X: Outside>(
     ensures network { X.network_faults outside.new ≡ X.network_faults outside.old }
 {
     match bytes_from(alloc, name, outside) {
-        Ok(bytes) => match rx_settings(alloc, bytes.as_slice()) {
-            Ok(said) => Ok(said),
-            Err(fault) => Err(Unread::of_settings(fault)),
-        },
+        Ok(bytes) => {
+            let text = bytes.as_slice();
+            tell_strays(alloc, ObjectKind::Receiver, text, outside);
+            match rx_settings(alloc, text) {
+                Ok(said) => Ok(said),
+                Err(fault) => Err(Unread::of_settings(fault)),
+            }
+        }
         Err(fault) => Err(Unread::of_read(fault)),
     }
 }

@@ -9,12 +9,14 @@ ghost use Rattle.sig_rxend.specs.Ends.{Follows, IsOneHistory};
 ghost use Rattle.sig_watch.specs.Ends.{HandsBack, IfReport};
 
 use crate::ServeEnd;
+use sig_counts::Counts;
 use sig_links::Door;
 use sig_outside::Disk;
 use sig_rxend::Receiver;
 use sig_rxnode::RxNode;
 use sig_watch::{WatchEnd, serve_watch};
 use std::alloc::Global;
+use std::mem::replace;
 use std::sync::Wait;
 use std::thread::Threads;
 
@@ -47,8 +49,9 @@ pub fn run_watches<R: Threads + Wait + Sync, D: Disk + Send, A: Door>(
     ensures network { result.end ≡ ServeEnd.NetworkFailed → 0 < (A.view door.new).faults }
 {
     let mut node = node;
+    let mut counts = Counts::new(alloc);
     for _ in 0..watches {
-        let Watched { node: next, end } = run_watch(alloc, rt, node, door);
+        let Watched { node: next, end } = run_watch(alloc, rt, node, &mut counts, door);
         node = next;
         if let Some(end) = end {
             return Served { node, end };
@@ -65,6 +68,7 @@ fn run_watch<R: Threads + Wait + Sync, D: Disk + Send, A: Door>(
     alloc: Global,
     rt: &R,
     node: RxNode<D>,
+    counts: &mut Counts,
     door: &mut A,
 ) -> Watched<D>
     requires { node.kept.store.broken_at ≡ None }
@@ -79,7 +83,7 @@ fn run_watch<R: Threads + Wait + Sync, D: Disk + Send, A: Door>(
     ensures breaks { IfSome result.end (λ end. BreaksAfter end result.node.kept.store.broken_at) }
     ensures network { IfSome result.end (λ end. end ≡ ServeEnd.NetworkFailed → 0 < (A.view door.new).faults) }
 {
-    match one_watch(alloc, rt, node, door) {
+    match one_watch(alloc, rt, node, counts, door) {
         WatchEnd::Done { node, report } => Watched {
             node,
             end: end_after(report.shut),
@@ -109,11 +113,12 @@ fn run_watch<R: Threads + Wait + Sync, D: Disk + Send, A: Door>(
     }
 }
 
-// One watch. A receiver knows nothing beside its node.
+// One watch, over what was counted, which goes from watch to watch.
 fn one_watch<R: Threads + Wait + Sync, D: Disk + Send, A: Door>(
     alloc: Global,
     rt: &R,
     node: RxNode<D>,
+    counts: &mut Counts,
     door: &mut A,
 ) -> WatchEnd<RxNode<D>>
     requires { node.kept.store.broken_at ≡ None }
@@ -122,7 +127,9 @@ fn one_watch<R: Threads + Wait + Sync, D: Disk + Send, A: Door>(
     ensures links { IfReport result (λ now report. WhyEnded node.rules now report result (A.view door.old) (A.view door.new)) }
     ensures memory { HandsBack node door.old door.new result }
 {
-    let (ended, ()) = serve_watch::<Receiver<D>, R, A>(alloc, rt, node, (), door);
+    let counted = replace(counts, Counts::new(alloc));
+    let (ended, counted) = serve_watch::<Receiver<D>, R, A>(alloc, rt, node, counted, door);
+    *counts = counted;
     ended
 }
 

@@ -1,4 +1,5 @@
 -- The cause that a line names of a push that settled nothing.
+use Rattle.std.specs.Prelude.{Result, Ok, Err, ⊤}
 use Rattle.sig_notes.specs.declared.cause.PushCause.{PushCause}
 use Rattle.sig_notes.specs.declared.cause.PushCause.TheVariants as causes
 use Rattle.sig_push.specs.declared.fault.PushFault.{PushFault}
@@ -11,3 +12,8 @@ cause_of faults.Dial = causes.Dial
 cause_of faults.Link = causes.Link
 cause_of faults.NoResponse = causes.NoResponse
 cause_of faults.Memory = causes.Memory
+
+-- why tokens are late that were pushed so
+abbrev pub cause_in : Result ⊤ PushFault → PushCause
+cause_in (Ok all) = causes.Kept
+cause_in (Err fault) = cause_of fault

@@ -24,5 +24,6 @@ mod threads;
 pub use asking::turn_of;
 pub use delivering::deliver;
 pub use log::TurnLog;
+pub use noting::note_late;
 pub use passing::Passing;
-pub use round::{hand, is_brought, push_rounds, tokens_handed};
+pub use round::{hand, is_brought, push_rounds, settled_one, tokens_handed};

@@ -5,13 +5,15 @@ ghost use Rattle.sig_push.specs.Pushed.{Counts, Follows, Hears, Sends};
 ghost use Rattle.sig_push.specs.Targets.{lacks_gateway};
 ghost use Rattle.sig_round.specs.Noted as spec;
 
+use crate::round::settled_one;
 use sig_links::Side;
-use sig_notes::{PushCause, push_failed, push_kept, reported, tell};
+use sig_notes::{PushCause, push_late, reported, tell};
 use sig_push::PushFault;
-use sig_terms::{Outcome, Rules, Token};
+use sig_terms::{Answer, Outcome, Rules, Token};
+use sig_txnode::Turn;
 use std::alloc::Global;
 
-/// Pushes a token as `sig_push` does, and tells what it came to, unless it was accepted.
+/// Pushes a token as `sig_push` does, and tells where its receiver reports it as faulty.
 pub fn push<S: Side>(
     alloc: Global,
     side: &mut S,
@@ -30,7 +32,7 @@ pub fn push<S: Side>(
     pushed
 }
 
-// Tells what the push of a token came to. A token that is reported as faulty is told each time, other lines by their stream.
+// Tells each token that its receiver reports as faulty.
 fn note_push<S: Side>(
     alloc: Global,
     side: &mut S,
@@ -39,19 +41,55 @@ fn note_push<S: Side>(
 )
     ensures { S.view side.new ≡ S.view side.old }
 {
-    let stream = token.stream.as_str();
-    match pushed {
-        Ok(Outcome::Accepted) => {}
-        Ok(Outcome::Keep) => tell(side, Some(stream), push_kept(alloc, stream)),
-        Ok(Outcome::Reported { code }) => {
-            let line = reported(alloc, stream, token.number, code.as_str());
-            tell(side, None, line);
+    if let Ok(Outcome::Reported { code }) = pushed {
+        let line = reported(alloc, token.stream.as_str(), token.number, code.as_str());
+        tell(side, None, line);
+    }
+}
+
+/// Tells how many of these tokens of a stream, which were handed last, are late, where some are, and why: the push at which it
+/// ended had no answer, or the receiver settled nothing (RFC 8935, section 2.4). One line a stream a minute is told.
+pub fn note_late<S: Side>(
+    alloc: Global,
+    side: &mut S,
+    tokens: &[Token],
+    turns: &[Turn],
+    pushed: Result<(), PushFault>,
+)
+    ensures { S.view side.new ≡ S.view side.old }
+{
+    let Some(first) = tokens.first() else {
+        return;
+    };
+    let many = tokens.len() as u64;
+    let late = many.saturating_sub(settled_last(turns));
+    if late > 0 {
+        let stream = first.stream.as_str();
+        let line = push_late(alloc, stream, late, many, cause_in(pushed));
+        tell(side, Some(stream), line);
+    }
+}
+
+// How many tokens were settled since some were handed last.
+fn settled_last(turns: &[Turn]) -> u64 {
+    let mut settled: u64 = 0;
+    for turn in turns {
+        if let Ok(Answer::Handed { .. }) = &turn.result {
+            settled = 0;
+        } else if settled_one(turn) {
+            settled = settled.saturating_add(1);
         }
-        Err(fault) => tell(
-            side,
-            Some(stream),
-            push_failed(alloc, stream, cause_of(*fault)),
-        ),
+    }
+    settled
+}
+
+// Why tokens are late that were pushed so.
+fn cause_in(pushed: Result<(), PushFault>) -> PushCause
+    ensures { result ≡ spec.cause_in pushed }
+{
+    match pushed {
+        Ok(()) => PushCause::Kept,
+        Err(fault) => cause_of(fault),
     }
 }
 

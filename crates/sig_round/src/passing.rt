@@ -15,7 +15,8 @@ pub trait Passing: Taker {
         ensures passes { result ≡ false → Self.passes stream.now }
         ensures told { Self.Taker.told self.new ≡ Self.Taker.told self.old };
 
-    /// A push round of this stream, which had begun, came to these turns.
-    fn ended<R: Wait>(&mut self, rt: &R, stream: &Text, turns: &[Turn])
+    /// A push round of this stream, which had begun, came to these turns. Answers how many tokens it was brought, where it was
+    /// late until now and is no more.
+    fn ended<R: Wait>(&mut self, rt: &R, stream: &Text, turns: &[Turn]) -> Option<u64>
         ensures { Self.Taker.told self.new ≡ Self.Taker.told self.old };
 }

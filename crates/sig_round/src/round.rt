@@ -8,10 +8,12 @@ ghost use Rattle.sig_round.specs.Turns.{Adds, AddsTurnOf};
 ghost use Rattle.sig_txnode.specs.declared.turn.Turn.{Turn};
 
 use crate::delivering::deliver_all;
+use crate::noting::note_late;
 use crate::{Passing, TurnLog};
 use sig_json::limits::TOKENS_PER_PAGE;
 use sig_json::{Items, Memory, Text, copy_items};
 use sig_links::Side;
+use sig_notes::{push_good, tell};
 use sig_push::PushFault;
 use sig_terms::{Answer, Call, Rules, Token};
 use sig_txnode::{Taker, Turn};
@@ -65,7 +67,9 @@ fn round_or_pass<R: Wait, K: Passing, S: Side>(
     }
     let before = log.turns.len();
     let end = push_round(alloc, rt, taker, rules, stream, side, log);
-    taker.ended(rt, stream, &log.turns[before..]);
+    if let Some(tokens) = taker.ended(rt, stream, &log.turns[before..]) {
+        tell(side, None, push_good(alloc, stream.as_str(), tokens));
+    }
     end
 }
 
@@ -86,8 +90,8 @@ pub fn is_brought(turns: &[Turn]) -> bool {
     }
 }
 
-// Whether a turn settled a token.
-fn settled_one(turn: &Turn) -> bool {
+/// Whether a turn settled a token.
+pub fn settled_one(turn: &Turn) -> bool {
     match &turn.result {
         Ok(Answer::Settled { count }) => *count > 0,
         _ => false,
@@ -193,7 +197,11 @@ fn deliver_handed<R: Wait, K: Taker, S: Side>(
     ensures now { log.new.now ≡ log.old.now }
 {
     match tokens_handed(alloc, log.turns.as_slice()) {
-        Ok(tokens) => deliver_all(alloc, rt, taker, rules, tokens.as_slice(), side, log),
+        Ok(tokens) => {
+            let end = deliver_all(alloc, rt, taker, rules, tokens.as_slice(), side, log);
+            note_late(alloc, side, tokens.as_slice(), log.turns.as_slice(), end);
+            end
+        }
         Err(Memory) => Err(PushFault::Memory),
     }
 }

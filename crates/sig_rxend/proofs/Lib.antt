@@ -1,3 +1,4 @@
+pub mod CountingLemmas
 pub mod SideLemmas
 pub mod StoreLemmas
 pub mod WatchLemmas

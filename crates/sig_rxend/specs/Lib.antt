@@ -1,3 +1,4 @@
+pub mod Counting
 pub mod Grown
 pub mod Laws
 pub mod Receiver

@@ -15,6 +15,7 @@
 //! Left out: how links are read and written.
 #![tactic(auto)]
 
+mod counting;
 mod end;
 pub mod laws;
 mod locked;
@@ -24,6 +25,7 @@ mod stored;
 mod threads;
 mod turning;
 
+pub use counting::Counting;
 pub use end::RxEnd;
 pub use locked::Locked;
 pub use receiver::Receiver;

@@ -1,6 +1,7 @@
 use crate::noting::serve_link;
-use crate::{Locked, RxEnd};
+use crate::{Counting, Locked, RxEnd};
 use sig_book::Naming;
+use sig_counts::Counts;
 use sig_json::{Items, Memory};
 use sig_link::LinkLog;
 use sig_links::{Link, Side};
@@ -25,7 +26,7 @@ impl<D: Disk> Lasting for Receiver<D> {
 
     type Log = LinkLog<RxTurn>;
 
-    type Company = ();
+    type Company = Counts;
 
     ghost follows = { Follows D.told };
 
@@ -58,9 +59,14 @@ impl<D: Disk> Served for Receiver<D> {
         let _ = node.broken_at();
     }
 
-    // A receiver does nothing by itself.
-    fn wants_errand(_company: &mut (), _now: u64) -> bool {
+    // A receiver does nothing by itself; it hears what time it is.
+    fn wants_errand(company: &mut Counts, now: u64) -> bool {
+        company.tick(now);
         false
+    }
+
+    fn accept_lacked(company: &mut Counts) {
+        company.door_failed();
     }
 
     fn errand<O: Opened<RxNode<D>> + Naming, R: Wait, S: Side>(
@@ -88,8 +94,11 @@ impl<D: Disk> Served for Receiver<D> {
         side: &mut S,
     ) -> LinkLog<RxTurn> {
         let mut taker = Locked { node };
-        serve_link::<RxEnd<Locked<Receiver<D>, O>>, R, L, S>(
+        taker.link_came(rt);
+        let log = serve_link::<RxEnd<Locked<Receiver<D>, O>>, R, L, S>(
             alloc, rt, &mut taker, rules, number, link, side,
-        )
+        );
+        taker.link_ended(rt, &log);
+        log
     }
 }

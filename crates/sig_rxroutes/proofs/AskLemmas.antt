@@ -161,6 +161,9 @@ route_good : (r : RxRoute) (request : Request) (rules : RxRules) (asked : RxCall
 route_good route.Push request rules asked h = subst (IsGood request rules) (ok_same (token_call request rules) asked h) (token_good request rules)
 route_good route.Rows request rules asked h = let here = read_shown request rules (rows_call request) asked h in rows_good request rules asked here.0 here.1
 route_good route.Check request rules asked h = let here = read_shown request rules (verdict_call request) asked h in verdict_good request rules asked here.0 here.1
+route_good route.Figures request rules asked h =
+    let here = read_shown request rules (Ok call.Figures) asked h in
+    subst (IsGood request rules) (ok_same call.Figures asked here.1) (record { may = here.0; proper = tt })
 
 is_good : (request : Request) (rules : RxRules) (asked : RxCall) → call_of request rules ≡ Ok asked → IsGood request rules asked
 is_good request rules asked h = let is = (routes_exactly request rules asked).0 h in route_good is.route request rules asked is.asks
@@ -183,6 +186,8 @@ speaks route.Rows request rules p asked apart inside shown h =
 speaks route.Check request rules p asked apart inside shown h =
     let (s, reads, is) = mapped call.Verdict (subject_in request.body) asked (read_shown request rules (verdict_call request) asked h).1 in
     subst (SpeaksFor p.iss) is tt
+speaks route.Figures request rules p asked apart inside shown h =
+    subst (SpeaksFor p.iss) (ok_same call.Figures asked (read_shown request rules (Ok call.Figures) asked h).1) tt
 
 pub principals_speak_for_themselves : PrincipalsSpeakForThemselves
 principals_speak_for_themselves request rules p asked apart inside shown h =

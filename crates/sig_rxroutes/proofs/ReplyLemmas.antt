@@ -10,6 +10,7 @@ leaves_links_open answer.Seen = refl
 leaves_links_open (answer.Refused code spot) = refl
 leaves_links_open (answer.Verdict verdict) = refl
 leaves_links_open (answer.Rows rows) = refl
+leaves_links_open (answer.Figures tokens rows) = refl
 
 pub settles_pushes : SettlesPushes
 settles_pushes = record { accepted = refl; seen = refl; refused = settles_by_code }
@@ -20,3 +21,4 @@ no_cache_keeps answer.Seen = refl
 no_cache_keeps (answer.Refused code spot) = refl
 no_cache_keeps (answer.Verdict verdict) = refl
 no_cache_keeps (answer.Rows rows) = refl
+no_cache_keeps (answer.Figures tokens rows) = refl

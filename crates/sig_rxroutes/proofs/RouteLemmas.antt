@@ -54,6 +54,7 @@ unfolding path_of routes
 at_path route.Push = refl
 at_path route.Rows = refl
 at_path route.Check = refl
+at_path route.Figures = refl
 
 forth : (request : Request) (rules : RxRules) (asked : RxCall) → call_of request rules ≡ Ok asked → IsFor request rules asked
 unfolding call_of

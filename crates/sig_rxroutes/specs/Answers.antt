@@ -8,6 +8,7 @@ use Rattle.sig_delivery.specs.Pushes.{coded_of}
 use Rattle.sig_rxnode.specs.declared.answer.RxAnswer.{RxAnswer}
 use Rattle.sig_rxnode.specs.declared.answer.RxAnswer.TheVariants as answer
 use Rattle.sig_rxroutes.specs.Documents.{rows_data, verdict_data}
+use Rattle.sig_rxroutes.specs.Metrics.{figured}
 
 -- the response to a token that is valid (RFC 8935, section 2.2): it has no body
 abbrev pub acknowledging : Response
@@ -24,3 +25,4 @@ reply answer.Seen = acknowledging
 reply (answer.Refused code spot) = coded_of code spot
 reply (answer.Verdict verdict) = telling (verdict_data verdict)
 reply (answer.Rows rows) = telling (rows_data rows)
+reply (answer.Figures tokens rows) = figured tokens rows

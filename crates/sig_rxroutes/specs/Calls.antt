@@ -39,7 +39,7 @@ rows_call request = result_map call.Rows (place_of (value_in request.query (code
 abbrev pub verdict_call : Request → Result RxCall HttpRefusal
 verdict_call request = result_map call.Verdict (subject_in request.body)
 
--- what only the reader of the session table may ask
+-- what only the reader of the session table and of the figures may ask
 abbrev pub for_reader : Request → RxRules → Result RxCall HttpRefusal → Result RxCall HttpRefusal
 for_reader request rules read = if shows request.bearer rules.reader then read else Err refusal.Auth
 
@@ -47,6 +47,7 @@ abbrev pub by_route : RxRoute → Request → RxRules → Result RxCall HttpRefu
 by_route route.Push request rules = Ok (token_call request rules)
 by_route route.Rows request rules = for_reader request rules (rows_call request)
 by_route route.Check request rules = for_reader request rules (verdict_call request)
+by_route route.Figures request rules = for_reader request rules (Ok call.Figures)
 
 -- the route at the path is for its own method alone (RFC 9110, section 9.1: methods are told apart by case)
 abbrev pub for_route : RxRoute → Request → RxRules → Result RxCall HttpRefusal

@@ -12,7 +12,7 @@ use Rattle.sig_delivery.specs.Outcomes.{outcome_of, settled_by}
 use Rattle.sig_rxnode.specs.declared.answer.RxAnswer.{RxAnswer}
 use Rattle.sig_rxnode.specs.declared.answer.RxAnswer.TheVariants.{Accepted, Seen, Refused}
 use Rattle.sig_rxnode.specs.declared.call.RxCall.{RxCall}
-use Rattle.sig_rxnode.specs.declared.call.RxCall.TheVariants.{Token, Verdict, Rows}
+use Rattle.sig_rxnode.specs.declared.call.RxCall.TheVariants.{Token, Verdict, Rows, Figures}
 use Rattle.sig_rxnode.specs.declared.rules.Principal.{Principal}
 use Rattle.sig_rxnode.specs.declared.rules.RxRules.{RxRules}
 use Rattle.sig_rxroutes.specs.Answers.{reply}
@@ -44,6 +44,7 @@ abbrev pub MayMake : RxRules → Option (List ℕ) → RxCall → Type 0
 MayMake rules shown (Token principal named bytes) = IfSome principal (HasBearer rules shown)
 MayMake rules shown (Verdict subject) = shown ≡ Some rules.reader
 MayMake rules shown (Rows from) = shown ≡ Some rules.reader
+MayMake rules shown Figures = shown ≡ Some rules.reader
 
 abbrev pub BearersDecide : Type 0
 BearersDecide = (request : Request) (rules : RxRules) (asked : RxCall) → call_of request rules ≡ Ok asked → MayMake rules request.bearer asked
@@ -57,6 +58,7 @@ abbrev pub SpeaksFor : List ℕ → RxCall → Type 0
 SpeaksFor iss (Token principal named bytes) = principal ≡ Some iss
 SpeaksFor iss (Verdict subject) = ⊤
 SpeaksFor iss (Rows from) = ⊤
+SpeaksFor iss Figures = ⊤
 
 -- then a principal's bearer pushes for its issuer, and for no other
 abbrev pub PrincipalsSpeakForThemselves : Type 0
@@ -75,6 +77,7 @@ abbrev pub IsProperOf : Request → RxCall → Type 0
 IsProperOf request (Token principal named bytes) = (named ≡ None) × (bytes ≡ request.body)
 IsProperOf request (Verdict subject) = IsProperSubject subject
 IsProperOf request (Rows from) = from ≤ LAST_NUMBER
+IsProperOf request Figures = ⊤
 
 abbrev pub RequestsMakeProperCalls : Type 0
 RequestsMakeProperCalls = (request : Request) (rules : RxRules) (asked : RxCall) → call_of request rules ≡ Ok asked → IsProperOf request asked

@@ -3,4 +3,5 @@ pub mod Asked
 pub mod Calls
 pub mod Documents
 pub mod Laws
+pub mod Metrics
 pub mod Routes

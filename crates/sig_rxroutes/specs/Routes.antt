@@ -8,15 +8,17 @@ unfoldable pub method_of : RxRoute → List ℕ
 method_of route.Push = codes "POST"
 method_of route.Rows = codes "GET"
 method_of route.Check = codes "POST"
+method_of route.Figures = codes "GET"
 
 unfoldable pub path_of : RxRoute → List ℕ
 path_of route.Push = codes "/push"
 path_of route.Rows = codes "/sessions"
 path_of route.Check = codes "/sessions/check"
+path_of route.Figures = codes "/metrics"
 
 -- every route, in the order of the table
 unfoldable pub routes : List RxRoute
-routes = route.Push ∷ route.Rows ∷ route.Check ∷ []
+routes = route.Push ∷ route.Rows ∷ route.Check ∷ route.Figures ∷ []
 
 -- the route at a path; each path has one
 abbrev pub route_at : List ℕ → Option RxRoute

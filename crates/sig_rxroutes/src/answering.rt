@@ -7,6 +7,7 @@ ghost use Rattle.sig_rxroutes.specs.Answers as spec;
 ghost use Rattle.sig_rxroutes.specs.Documents as documents;
 
 use crate::document::{rows_value, verdict_value};
+use crate::metrics::figured;
 use sig_delivery::coded;
 use sig_http::{Response, empty, json};
 use sig_json::{Bytes, Memory, Value, canon};
@@ -16,7 +17,7 @@ use std::alloc::Global;
 
 /// The response to an answer, which has one status: 202 without a body for a token that is valid, whether it is new or
 /// was taken before (RFC 8935, section 2.2), 400 with its code for one that is refused (section 2.3), and 200 for what is
-/// told of the session table. It leaves the link open, and no cache may keep it. Out of memory is the only error.
+/// told of the session table and the figures. It leaves the link open, and no cache may keep it. Out of memory is the only error.
 pub fn response_of(alloc: Global, answer: &RxAnswer) -> Result<Response, Memory>
     ensures { IfOk result (λ response. response ≡ spec.reply answer.now) }
 {
@@ -25,6 +26,7 @@ pub fn response_of(alloc: Global, answer: &RxAnswer) -> Result<Response, Memory>
         RxAnswer::Refused { code, spot } => coded(alloc, code, spot),
         RxAnswer::Verdict(verdict) => judged(alloc, verdict),
         RxAnswer::Rows(rows) => listed(alloc, rows.as_slice()),
+        RxAnswer::Figures { tokens, rows } => figured(alloc, *tokens, *rows),
     }
 }
 

@@ -12,6 +12,8 @@ pub enum RxRoute {
     Rows,
     /// What the session table says of a subject is asked.
     Check,
+    /// The figures of the receiver are read.
+    Figures,
 }
 
 impl RxRoute {
@@ -20,7 +22,12 @@ impl RxRoute {
     pub fn all() -> &'static [RxRoute]
         ensures { result.now ≡ spec.routes }
     {
-        &[RxRoute::Push, RxRoute::Rows, RxRoute::Check]
+        &[
+            RxRoute::Push,
+            RxRoute::Rows,
+            RxRoute::Check,
+            RxRoute::Figures,
+        ]
     }
 
     /// Its method.
@@ -30,7 +37,7 @@ impl RxRoute {
     {
         match self {
             RxRoute::Push | RxRoute::Check => "POST",
-            RxRoute::Rows => "GET",
+            RxRoute::Rows | RxRoute::Figures => "GET",
         }
     }
 
@@ -43,6 +50,7 @@ impl RxRoute {
             RxRoute::Push => "/push",
             RxRoute::Rows => "/sessions",
             RxRoute::Check => "/sessions/check",
+            RxRoute::Figures => "/metrics",
         }
     }
 }

@@ -61,6 +61,7 @@ fn by_route(
         RxRoute::Check => Ok(RxCall::Verdict {
             subject: subject_in(alloc, request.body.as_slice())?,
         }),
+        RxRoute::Figures => Ok(RxCall::Figures),
     }
 }
 

@@ -71,6 +71,7 @@ may_tell_nothing replies (call.Publish id news) tells = refl
 may_tell_nothing replies (call.OperatorStatus stream status reason) tells = refl
 may_tell_nothing replies (call.OperatorDelete stream) tells = refl
 may_tell_nothing replies (call.Streams from) tells = refl
+may_tell_nothing replies (call.Refused from) tells = refl
 may_tell_nothing replies call.Figures tells = refl
 may_tell_nothing replies (call.Deliver stream) tells = refl
 may_tell_nothing replies (call.Hand streams) tells = refl

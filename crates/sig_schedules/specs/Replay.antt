@@ -154,6 +154,7 @@ call_text number before (answer.Sets tokens more) = sets_text number (before + 1
 call_text number before (answer.Published store_id tokens) =
     numbered number (codes "published " ++ decimal (length tokens)) ++ issued_text number tokens
 call_text number before (answer.Standings next standings) = []
+call_text number before (answer.Refused next tokens) = []
 call_text number before (answer.Figures publications standings) = []
 call_text number before (answer.Delivering stream) = []
 call_text number before (answer.Handed tokens) = handed_text number (before + 1) tokens

@@ -1,3 +1,4 @@
+pub mod Beginning
 pub mod Ends
 pub mod Opening
 pub mod Watches

@@ -4,6 +4,7 @@ ghost use Rattle.std.specs.Prelude.{◌≡◌, ◌<◌, IfOk, None};
 ghost use Rattle.sig_notes.specs.Lines as spec;
 ghost use Rattle.sig_opening.specs.Ends.{BreaksAfter};
 ghost use Rattle.sig_opening.specs.Watches.{RunsTo};
+ghost use Rattle.sig_serve.specs.Beginning.{held_by};
 ghost use Rattle.sig_serve.specs.Door.{with_door};
 ghost use Rattle.sig_serve.specs.Watches.{IsWatch, tells_of};
 
@@ -11,7 +12,7 @@ use crate::watches::Served;
 use crate::{ServeEnd, watches};
 use sig_json::{Memory, Text};
 use sig_links::Door;
-use sig_notes::{ended, serving, tell};
+use sig_notes::{Held, ended, serving, tell};
 use sig_outside::{Disk, Place};
 use sig_txnode::TxNode;
 use std::alloc::Global;
@@ -43,9 +44,21 @@ pub fn run_watches<R: Threads + Wait + Sync, D: Disk + Send, A: Door>(
 
 // The line with which a transmitter begins to serve.
 fn beginning<D: Disk>(alloc: Global, node: &TxNode<D>, place: &Place) -> Result<Text, Memory>
-    ensures { IfOk result (λ line. line ≡ spec.serving node.now.rules.issuer place.now.host place.now.port node.now.store.journal.records) }
+    ensures { IfOk result (λ line.
+        line ≡ spec.serving node.now.rules.issuer place.now.host place.now.port (held_by node.now)) }
 {
     let issuer = node.rules().issuer.as_str();
-    let records = node.records();
-    serving(alloc, issuer, place.host.as_str(), place.port, records)
+    let held = held_now(node);
+    serving(alloc, issuer, place.host.as_str(), place.port, held)
+}
+
+// What a node holds.
+fn held_now<D: Disk>(node: &TxNode<D>) -> Held
+    ensures { result ≡ held_by node.now }
+{
+    Held {
+        streams: node.streams() as u64,
+        owed: node.owed_in_all(),
+        records: node.records(),
+    }
 }

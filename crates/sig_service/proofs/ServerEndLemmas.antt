@@ -77,26 +77,26 @@ lacks_none a b a_there b_there (inl missing) = true≢false (subst IsMissing a_t
 lacks_none a b a_there b_there (inr missing) = true≢false (subst IsMissing b_there missing)
 
 -- a serving that meets no fault ends with 0, 8 or 9
-ended : {T S : Type 0} (reads : List ℕ → Result T SettingsFault) (means : List ℕ → List ℕ → Result S LoadFault) (ask : StoreAsked) (before now : OutsideState) (a b : OutputState) (e : ServeEnd) (serves : Type 0)
+ended : {T S : Type 0} (reads : List ℕ → Result T SettingsFault) (means : List ℕ → List ℕ → Result S LoadFault) (ask : StoreAsked) (before now : OutsideState) (a b : OutputState) (e : ServeEnd) (serves unless_there : Type 0)
     → IsReady reads means ask before → MeetsNoFault before now a b
-    → EndedSo (AreRefused reads (before.settings ask.settings)) (IsDamaged means (before.stores (file_a ask.store)) (before.stores (file_b ask.store))) serves ask e before now
+    → EndedSo (AreRefused reads (before.settings ask.settings)) (IsDamaged means (before.stores (file_a ask.store)) (before.stores (file_b ask.store))) serves unless_there ask e before now
     → (status_of e ≡ 0) ⊎ (status_of e ≡ 8) ⊎ (status_of e ≡ 9)
-ended reads means ask before now a b Done serves ready calm so = inl refl
-ended reads means ask before now a b SettingsFailed serves ready calm so = absurd (calm.settings (so.settings_failed refl))
-ended reads means ask before now a b (Refused member) serves ready calm so = absurd (taken_refused reads means ask before member ready (so.refused_at member refl))
-ended reads means ask before now a b NoStore serves ready calm so = absurd (lacks_none _ _ ready.there.0 ready.there.1 (so.no_store refl))
-ended reads means ask before now a b StoreFailed serves ready calm so = absurd (calm.stores (so.store_failed refl))
-ended reads means ask before now a b (Damaged file at) serves ready calm so = absurd (stands_damaged reads means ask before file at ready (so.damaged_at file at refl))
-ended reads means ask before now a b NetworkFailed serves ready calm so = absurd (calm.network (so.network_failed refl))
-ended reads means ask before now a b (Disagree values) serves ready calm so = inr (inl refl)
-ended reads means ask before now a b Memory serves ready calm so = inr (inr refl)
+ended reads means ask before now a b Done serves unless_there ready calm so = inl refl
+ended reads means ask before now a b SettingsFailed serves unless_there ready calm so = absurd (calm.settings (so.settings_failed refl))
+ended reads means ask before now a b (Refused member) serves unless_there ready calm so = absurd (taken_refused reads means ask before member ready (so.refused_at member refl))
+ended reads means ask before now a b NoStore serves unless_there ready calm so = absurd (lacks_none _ _ ready.there.0 ready.there.1 (so.no_store refl))
+ended reads means ask before now a b StoreFailed serves unless_there ready calm so = absurd (calm.stores (so.store_failed refl))
+ended reads means ask before now a b (Damaged file at) serves unless_there ready calm so = absurd (stands_damaged reads means ask before file at ready (so.damaged_at file at refl))
+ended reads means ask before now a b NetworkFailed serves unless_there ready calm so = absurd (calm.network (so.network_failed refl))
+ended reads means ask before now a b (Disagree values) serves unless_there ready calm so = inr (inl refl)
+ended reads means ask before now a b Memory serves unless_there ready calm so = inr (inr refl)
 
 served_end : (server : Server) (ask : StoreAsked) (before now : OutsideState) (a b : OutputState) (e : ServeEnd) → servable server ask before → MeetsNoFault before now a b
     → ServedSo server ask e before now → (status_of e ≡ 0) ⊎ (status_of e ≡ 8) ⊎ (status_of e ≡ 9)
 served_end Transmitter ask before now a b e ready calm so =
-    ended tx_settings_of tx.state_of ask before now a b e _ ready calm so
+    ended tx_settings_of tx.state_of ask before now a b e _ _ ready calm so
 served_end Receiver ask before now a b e ready calm so =
-    ended rx_settings_of rx.state_of ask before now a b e _ ready calm so
+    ended rx_settings_of rx.state_of ask before now a b e _ _ ready calm so
 
 one_same : (status wanted : ℕ) → status ≡ wanted → (wanted ≡ 0) ⊎ (wanted ≡ 8) ⊎ (wanted ≡ 9) → (status ≡ 0) ⊎ (status ≡ 8) ⊎ (status ≡ 9)
 one_same status wanted is h = subst (λ (n : ℕ). (n ≡ 0) ⊎ (n ≡ 8) ⊎ (n ≡ 9)) (sym is) h

@@ -9,7 +9,6 @@ use Rattle.sig_txsettings.specs.Settings.{tx_settings_of}
 use Rattle.sig_rxsettings.specs.Settings.{rx_settings_of}
 use Rattle.sig_logs.specs.declared.difference.Differ.TheVariants as differ
 use Rattle.sig_opening.specs.Files.{LackOne}
-use Rattle.sig_opening.specs.Serving.{UnlessThere}
 use Rattle.sig_opening.specs.Stays.{KeepsOtherSettings}
 use Rattle.sig_opening.specs.declared.ending.ServeEnd.{ServeEnd}
 use Rattle.sig_opening.specs.declared.ending.ServeEnd.TheVariants.{Done, SettingsFailed, Refused, NoStore, StoreFailed, Damaged, NetworkFailed, Disagree, Memory}
@@ -59,9 +58,10 @@ last_line Memory = codes "signals: memory\n"
 
 -- ---- what it did
 
--- what a serving that ended so did: its cause, by what refused settings and damaged stores are, its watches from the store that was
--- opened to the one that was put back, that it made no file, and what stays as it was
-pub record EndedSo (refused : List ℕ → Type 0) (damaged : ℕ → ℕ → Type 0) (serves : Type 0) (ask : StoreAsked) (e : ServeEnd) (before now : OutsideState) : Type 0 where
+-- what a serving that ended so did: its cause, by what refused settings and damaged stores are; its door and its watches, from
+-- the store that was opened to the one that was put back; that it made no file; that without one of the store's it came to no
+-- watch; and what stays as it was
+pub record EndedSo (refused : List ℕ → Type 0) (damaged : ℕ → ℕ → Type 0) (serves unless_there : Type 0) (ask : StoreAsked) (e : ServeEnd) (before now : OutsideState) : Type 0 where
   pub settings_failed : e ≡ SettingsFailed → Rose before.settings_faults now.settings_faults
   pub refused_at : (member : List ℕ) → e ≡ Refused member → refused member
   pub no_store : e ≡ NoStore → LackOne (before.there (file_a ask.store)) (before.there (file_b ask.store))
@@ -70,7 +70,7 @@ pub record EndedSo (refused : List ℕ → Type 0) (damaged : ℕ → ℕ → Ty
   pub network_failed : e ≡ NetworkFailed → Rose before.network_faults now.network_faults
   pub served : serves
   pub there : now.there ≡ before.there
-  pub missing : UnlessThere (before.there (file_a ask.store)) (before.there (file_b ask.store)) e (around_store ask.store before) (around_store ask.store now)
+  pub missing : unless_there
   pub back : StaysTold before.stores now.stores (file_a ask.store) × StaysTold before.stores now.stores (file_b ask.store)
   pub others : KeepsBut (file_a ask.store) (file_b ask.store) before.stores now.stores
   pub settings : KeepsOtherSettings ask.settings before.settings now.settings
@@ -80,10 +80,14 @@ pub record EndedSo (refused : List ℕ → Type 0) (damaged : ℕ → ℕ → Ty
 abbrev pub ServedSo : Server → StoreAsked → ServeEnd → OutsideState → OutsideState → Type 0
 ServedSo Transmitter ask e before now =
     EndedSo (tx.AreRefused (before.settings ask.settings)) (tx.IsDamaged (before.stores (file_a ask.store)) (before.stores (file_b ask.store)))
-    (tx_serving.ServesBy (before.settings ask.settings) e ask.count (around_store ask.store before) (around_store ask.store now)) ask e before now
+    (tx_serving.ServesBy (before.settings ask.settings) e ask.count (around_store ask.store before) (around_store ask.store now))
+    (tx_serving.UnlessThereBy (before.settings ask.settings) (before.there (file_a ask.store)) (before.there (file_b ask.store)) e (around_store ask.store before) (around_store ask.store now))
+    ask e before now
 ServedSo Receiver ask e before now =
     EndedSo (rx.AreRefused (before.settings ask.settings)) (rx.IsDamaged (before.stores (file_a ask.store)) (before.stores (file_b ask.store)))
-    (rx_serving.ServesBy (before.settings ask.settings) e ask.count (around_store ask.store before) (around_store ask.store now)) ask e before now
+    (rx_serving.ServesBy (before.settings ask.settings) e ask.count (around_store ask.store before) (around_store ask.store now))
+    (rx_serving.UnlessThereBy (before.settings ask.settings) (before.there (file_a ask.store)) (before.there (file_b ask.store)) e (around_store ask.store before) (around_store ask.store now))
+    ask e before now
 
 -- the run of a server ended with this status: by the ending of the serving and its last line
 abbrev pub ServerRan : ServerAsked → OutsideState → OutsideState → OutputState → OutputState → ℕ → Type 0

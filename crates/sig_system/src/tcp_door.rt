@@ -190,7 +190,9 @@ impl<R: Net<Listener = TcpListener, Stream = TcpStream> + Clock + Eprint + Copy 
                 link,
                 side: TcpSide::new(self.alloc, self.rt, self.notes.shared(), self.bell.shared()),
             }),
-            Ok(None) => Ok(Accepted::Waited),
+            Ok(None) => Ok(Accepted::Waited {
+                lacking: self.lacking > 0,
+            }),
             Err(_) => Err(self.faults.raise()),
         }
     }

@@ -9,7 +9,7 @@ use crate::listing::last_ended;
 use sig_journal::NodeFault;
 use sig_links::Side;
 use sig_push::PushFault;
-use sig_round::{TurnLog, deliver};
+use sig_round::{TurnLog, deliver, note_late};
 use sig_terms::{Call, Outcome, Rules, Token};
 use sig_txnode::{Taker, Turn};
 use std::alloc::Global;
@@ -18,7 +18,7 @@ use std::sync::Wait;
 /// Pushes these tokens one after another, and settles each by what its push settles, in a turn.
 ///
 /// It ends at the first push that has no answer, which is no fault of the tick unless memory ran out; and at the first turn
-/// that is refused, with that turn's fault.
+/// that is refused, with that turn's fault. The side tells how many tokens are late, where some are.
 pub fn bring<R: Wait, K: Taker, S: Side>(
     alloc: Global,
     rt: &R,
@@ -35,9 +35,13 @@ pub fn bring<R: Wait, K: Taker, S: Side>(
     for token in tokens {
         match deliver(alloc, rt, taker, rules, token, side, log) {
             Ok(()) => last_ended(log.turns.as_slice())?,
-            Err(fault) => return end_by(fault),
+            Err(fault) => {
+                note_late(alloc, side, tokens, log.turns.as_slice(), Err(fault));
+                return end_by(fault);
+            }
         }
     }
+    note_late(alloc, side, tokens, log.turns.as_slice(), Ok(()));
     Ok(())
 }
 

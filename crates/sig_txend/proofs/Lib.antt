@@ -1,3 +1,4 @@
+pub mod CountingLemmas
 pub mod FollowLemmas
 pub mod StoreLemmas
 pub mod WatchLemmas

@@ -1,15 +1,13 @@
 -- What a transmitter is to its links.
 use Rattle.std.specs.Prelude.{Option, List, ℕ}
-use Rattle.sig_terms.specs.declared.answer.Answer.{Answer}
 use Rattle.sig_terms.specs.declared.call.Call.{Call}
 use Rattle.sig_terms.specs.declared.rules.Rules.{Rules}
 use Rattle.sig_txnode.specs.Told.{TakerTold}
 use Rattle.sig_txnode.specs.declared.turn.Turn.{Turn}
-use Rattle.sig_txroutes.specs.Answers.{reply}
 use Rattle.sig_txroutes.specs.Calls.{call_of}
 use Rattle.sig_round.specs.Turns.{Grew}
-use Rattle.sig_link.specs.Answering.{response_in}
 use Rattle.sig_link.specs.Meaning.{Meaning}
+use Rattle.sig_txend.specs.Counting.{Tells}
 use Rattle.sig_txend.specs.Following.{PushesAfter}
 use Rattle.sig_txend.specs.Turning.{MakesTurn, TellsOneTime}
 
@@ -20,6 +18,6 @@ transmitter passes = record {
   Makes = MakesTurn;
   Tries = TellsOneTime;
   Grew = Grew;
-  response = λ rules turn. response_in (λ (answer : Answer). reply answer rules) turn.result;
+  Responds = λ rules turn response. Tells rules turn.result response;
   Follows = PushesAfter passes;
 }

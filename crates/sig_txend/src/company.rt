@@ -1,13 +1,17 @@
-ghost use Rattle.std.specs.Prelude.{◌≡◌, ◌≤◌, IsTrue};
+ghost use Rattle.std.specs.Prelude.{◌≡◌, ◌≤◌, IfOk, map};
 ghost use Rattle.sig_json.specs.declared.limits.TheConstants.{LAST_NUMBER};
+ghost use Rattle.sig_txend.specs.Counting.{IsCountedAt, standing_in};
 
-use sig_courier::Attempt;
+use crate::counting::{count_pushes, put_counted};
+use sig_counts::Counts;
+use sig_courier::{Attempt, Schedule};
 use sig_dispatch::Dispatch;
-use sig_json::Text;
 use sig_json::limits::LAST_NUMBER;
-use sig_round::is_brought;
-use sig_terms::Answer;
+use sig_json::{Memory, Text};
+use sig_round::{is_brought, settled_one};
+use sig_terms::{Answer, Standing};
 use sig_txnode::Turn;
+use sig_txroutes::{Pushed, ToldStream};
 use std::alloc::Global;
 
 /// What an errand of a transmitter does next.
@@ -31,6 +35,7 @@ pub struct Company {
     asked: Vec<Text>,
     // What the errands do first that were begun and have not asked yet.
     begun: Vec<Task>,
+    counts: Counts,
 }
 
 impl Company {
@@ -42,12 +47,14 @@ impl Company {
             now: 0,
             asked: Vec::new(alloc),
             begun: Vec::new(alloc),
+            counts: Counts::new(alloc),
         }
     }
 
     /// Whether an errand is to be begun at this time, in seconds since 1970. What it does first is kept for it.
     pub fn begins_errand(&mut self, now: u64) -> bool {
         self.now = now;
+        self.counts.tick(now);
         if !self.dispatch.claims_at(now) || self.begun.reserve(1).is_err() {
             return false;
         }
@@ -76,14 +83,23 @@ impl Company {
         self.dispatch.end_listing(whole);
     }
 
-    /// An errand tried a stream so, which may owe more. Where it offered nothing, there was no attempt.
-    pub fn tried(&mut self, attempt: &Attempt, more: bool)
+    /// An errand tried a stream so, by these turns; it may owe more. Where it offered nothing, there was no attempt. Answers
+    /// how many tokens it was brought, where it was late until now and is no more.
+    pub fn tried(&mut self, attempt: &Attempt, turns: &[Turn], more: bool) -> Option<u64>
         requires { attempt.now.at ≤ LAST_NUMBER }
     {
+        count_pushes(&mut self.counts, turns);
+        let was_late = self.is_late(&attempt.stream);
         if attempt.tokens > 0 {
             self.dispatch.note(attempt);
         }
         self.dispatch.release(&attempt.stream, more);
+        (was_late && attempt.good).then_some(attempt.tokens)
+    }
+
+    // Whether the last attempt of a stream was late.
+    fn is_late(&self, stream: &Text) -> bool {
+        self.dispatch.schedule().due_at(stream) > 0
     }
 
     /// A stream may owe something.
@@ -120,13 +136,16 @@ impl Company {
     }
 
     /// A push round of this stream came to these turns. Where each token that it was handed was settled, the stream is late no
-    /// more.
-    pub fn ended_round(&mut self, stream: &Text, turns: &[Turn]) {
+    /// more. Answers how many they are, where it was late until now.
+    pub fn ended_round(&mut self, stream: &Text, turns: &[Turn]) -> Option<u64> {
+        count_pushes(&mut self.counts, turns);
+        let was_late = self.is_late(stream);
         let tokens = settled_by(turns);
         if tokens > 0 {
             self.note_good(stream, tokens);
         }
         self.dispatch.release(stream, !is_brought(turns));
+        (was_late && tokens > 0).then_some(tokens)
     }
 
     // Notes that a stream was brought so many tokens. Where memory is refused it isn't noted, and a late stream stays late.
@@ -141,9 +160,54 @@ impl Company {
         }
     }
 
+    /// What was counted, to count more.
+    pub fn counts(&mut self) -> &mut Counts {
+        &mut self.counts
+    }
+
+    /// These streams with what came of the attempts to bring them their tokens. Out of memory is the only error.
+    pub fn told_streams(
+        &self,
+        alloc: Global,
+        standings: &[Standing],
+    ) -> Result<Vec<ToldStream>, Memory>
+        ensures { IfOk result (λ streams. map standing_in streams.items ≡ standings.now) }
+    {
+        let mut streams = Vec::new(alloc);
+        for standing in standings {
+            let push = pushed(self.dispatch.schedule(), &standing.stream);
+            let standing = standing.copy(alloc)?;
+            streams.push(ToldStream { standing, push })?;
+        }
+        Ok(streams)
+    }
+
+    /// What was counted, as metrics, beside this many records and bytes of the journal. Out of
+    /// memory is the only error.
+    pub fn counted(&self, alloc: Global, records: u64, bytes: u64) -> Result<Text, Memory>
+        ensures { IfOk result (IsCountedAt records bytes) }
+    {
+        let mut text = String::new(alloc);
+        let lates = self.dispatch.schedule().lates();
+        put_counted(&mut text, &self.counts, records, bytes, lates)?;
+        Ok(Text::from_string(text))
+    }
+
     /// A stream is tried no more; it may owe more.
     pub fn release(&mut self, stream: &Text, more: bool) {
         self.dispatch.release(stream, more);
+    }
+}
+
+// What came of the attempts to bring a stream its tokens, where there was one.
+fn pushed(schedule: &Schedule, stream: &Text) -> Option<Pushed> {
+    match schedule.lates().get(stream) {
+        Some(late) if late.at > 0 => Some(Pushed {
+            at: late.at,
+            late: late.row,
+            due: late.due,
+        }),
+        _ => None,
     }
 }
 
@@ -170,13 +234,5 @@ fn settled_by(turns: &[Turn]) -> u64 {
             }
         }
         _ => 0,
-    }
-}
-
-// Whether a turn settled a token.
-fn settled_one(turn: &Turn) -> bool {
-    match &turn.result {
-        Ok(Answer::Settled { count }) => *count > 0,
-        _ => false,
     }
 }

@@ -11,9 +11,9 @@ use sig_json::Memory;
 use sig_link::{End, faulted};
 use sig_links::Side;
 use sig_round::{TurnLog, push_rounds, turn_of};
-use sig_terms::{Call, Rules};
+use sig_terms::{Answer, Call, Rules};
 use sig_txnode::Turn;
-use sig_txroutes::{call_of, response_of};
+use sig_txroutes::{call_of, figured_with, listed_with, response_of};
 use std::alloc::Global;
 use std::marker::PhantomData;
 use std::mem::replace;
@@ -54,11 +54,35 @@ impl<K: Dispatching> End for TxEnd<K> {
         turn_of(rt, taker, link, now, call)
     }
 
-    fn response(alloc: Global, rules: &Rules, turn: &Turn) -> Result<Response, Memory> {
+    fn response<R: Wait>(
+        alloc: Global,
+        rt: &R,
+        taker: &mut K,
+        rules: &Rules,
+        turn: &Turn,
+    ) -> Result<Response, Memory> {
         match &turn.result {
+            Ok(
+                Answer::Figures {
+                    publications,
+                    standings,
+                },
+            ) => {
+                let counted = taker.counted(rt, alloc)?;
+                let standings = standings.as_slice();
+                figured_with(alloc, *publications, standings, counted.as_str())
+            }
+            Ok(Answer::Standings { next, standings }) => {
+                let streams = taker.told_streams(rt, alloc, standings.as_slice())?;
+                listed_with(alloc, *next, streams.as_slice())
+            }
             Ok(answer) => response_of(alloc, answer, rules),
             Err(fault) => faulted(alloc, *fault),
         }
+    }
+
+    fn count<R: Wait>(rt: &R, taker: &mut K, request: &Request, status: u16) {
+        taker.count(rt, request, status);
     }
 
     fn follow<R: Wait, S: Side>(
@@ -71,7 +95,7 @@ impl<K: Dispatching> End for TxEnd<K> {
         turns: &mut Vec<Turn>,
     ) -> Result<(), Memory> {
         let (link, now) = (turn.link, turn.now);
-        tell_news(rt, taker, &turn);
+        tell_news(rt, taker, rules, &turn);
         let streams = streams_after(alloc, rules, &turn);
         turns.push_reserved(turn);
         match streams {

@@ -10,6 +10,7 @@ use sig_courier::Attempt;
 use sig_json::limits::{LAST_NUMBER, TOKENS_PER_PAGE};
 use sig_json::{Memory, Text};
 use sig_links::Side;
+use sig_notes::{push_good, tell};
 use sig_round::TurnLog;
 use sig_terms::Rules;
 use sig_tick::{attempt, list, pushes_listed};
@@ -132,6 +133,7 @@ fn try_stream<R: Wait, K: Dispatching, S: Side>(
     requires { spec.has_client rules.now stream ≡ true }
     ensures { TriesOne rules.now (record { link = log.old.link; now = log.old.now }) (S.view side.old) (S.view side.new) log.old.turns.items log.new.turns.items }
 {
+    let before = log.turns.len();
     let trial = attempt(alloc, rt, taker, rules, &stream, side, log);
     let made = Attempt {
         stream,
@@ -141,6 +143,8 @@ fn try_stream<R: Wait, K: Dispatching, S: Side>(
     };
     let is_whole = trial.end.is_ok();
     let more = !is_whole || trial.tokens >= TOKENS_PER_PAGE as u64;
-    taker.tried(rt, &made, more);
+    if let Some(tokens) = taker.tried(rt, &made, &log.turns[before..], more) {
+        tell(side, None, push_good(alloc, made.stream.as_str(), tokens));
+    }
     is_whole
 }

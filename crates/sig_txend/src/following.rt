@@ -28,14 +28,16 @@ pub fn streams_after(
 }
 
 /// Tells of a stream that may offer what it kept, since its status or its configuration was set by this turn; and of one of
-/// which the operator asked for a round.
-pub fn tell_news<R: Wait, K: Dispatching>(rt: &R, taker: &mut K, turn: &Turn)
+/// which the operator asked for a round, where its client is one of the rules'.
+pub fn tell_news<R: Wait, K: Dispatching>(rt: &R, taker: &mut K, rules: &Rules, turn: &Turn)
     ensures { K.Taker.told taker.new ≡ K.Taker.told taker.old }
 {
     match &turn.result {
         Ok(Answer::State { stream, .. }) => taker.tell(rt, stream),
         Ok(Answer::Conf { conf }) => taker.tell(rt, &conf.stream),
-        Ok(Answer::Delivering { stream }) => taker.ask(rt, stream),
+        Ok(Answer::Delivering { stream }) if has_client(rules, stream.as_str()) => {
+            taker.ask(rt, stream)
+        }
         _ => {}
     }
 }

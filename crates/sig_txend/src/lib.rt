@@ -11,7 +11,8 @@
 //!               (`sig_txroutes`)   (`sig_round`)                       (`sig_txroutes`)    (`following`)
 //! ```
 //!
-//! Promised: each call makes one turn, at a time that the side tells before it; the response is that to its answer, 503 where
+//! Promised: figures are told with metrics of some counts, and the streams of a page with some attempts: a lock hides that
+//! they are this server's; each call makes one turn, at a time that the side tells before it; the response is that to its answer, 503 where
 //! the store failed; and a push round follows just those answers that name streams for one, over those of them whose clients
 //! the rules have, at the time of the turn. A fault of a push ends its round alone, and memory that runs out in it ends the
 //! link. Of a watch (`sig_watch::serve_watch::<Transmitter<D>, ..>`): the node that is handed back is one history from the
@@ -20,6 +21,7 @@
 #![tactic(auto)]
 
 mod company;
+mod counting;
 mod dispatching;
 mod end;
 mod errands;

@@ -1,6 +1,6 @@
 use crate::errands::do_errand;
 use crate::noting::serve_link;
-use crate::{Company, Locked, TxEnd};
+use crate::{Company, Dispatching, Locked, TxEnd};
 use sig_book::Naming;
 use sig_json::{Items, Memory};
 use sig_link::LinkLog;
@@ -62,6 +62,10 @@ impl<D: Disk> Served for Transmitter<D> {
         company.begins_errand(now)
     }
 
+    fn accept_lacked(company: &mut Company) {
+        company.counts().door_failed();
+    }
+
     fn errand<O: Opened<TxNode<D>> + Naming, R: Wait, S: Side>(
         alloc: Global,
         rt: &R,
@@ -88,8 +92,11 @@ impl<D: Disk> Served for Transmitter<D> {
         side: &mut S,
     ) -> LinkLog<Turn> {
         let mut taker = Locked { node };
-        serve_link::<TxEnd<Locked<Transmitter<D>, O>>, R, L, S>(
+        taker.link_came(rt);
+        let log = serve_link::<TxEnd<Locked<Transmitter<D>, O>>, R, L, S>(
             alloc, rt, &mut taker, rules, number, link, side,
-        )
+        );
+        taker.link_ended(rt, &log);
+        log
     }
 }

@@ -292,6 +292,9 @@ operator_query_good overseen.Delete request rules made h =
 operator_query_good overseen.Streams request rules made h =
     let (from, at, is) = mapped call.Streams (place_of (value_in request.query (codes "from"))) made h in
     good_as request rules Operator (call.Streams from) made is refl tt
+operator_query_good overseen.Refused request rules made h =
+    let (from, at, is) = mapped call.Refused (place_of (value_in request.query (codes "from"))) made h in
+    good_as request rules Operator (call.Refused from) made is refl tt
 operator_query_good overseen.Figures request rules made h = good_as request rules Operator call.Figures made (ok_same _ made h) refl tt
 
 query_proper : (q : QueryCall) (request : Request) (rules : Rules) (client : List ℕ) (stream : Option (List ℕ)) (made : Call) → query_call q client stream ≡ Ok made

@@ -7,7 +7,7 @@ use Rattle.sig_http.specs.declared.fault.HttpRefusal.{HttpRefusal}
 use Rattle.sig_http.specs.declared.fault.HttpRefusal.TheVariants as refusal
 use Rattle.sig_http.specs.declared.message.Request.{Request}
 use Rattle.sig_terms.specs.declared.call.Call.{Call}
-use Rattle.sig_terms.specs.declared.call.Call.TheVariants.{Metadata, Create, ReadAll, Read, Patch, Put, Delete, GetStatus, SetStatus, Add, Remove, Verify, Poll, Publish, OperatorStatus, OperatorDelete, Streams, Figures, Deliver, Hand, Settle}
+use Rattle.sig_terms.specs.declared.call.Call.TheVariants.{Metadata, Create, ReadAll, Read, Patch, Put, Delete, GetStatus, SetStatus, Add, Remove, Verify, Poll, Publish, OperatorStatus, OperatorDelete, Streams, Refused, Figures, Deliver, Hand, Settle}
 use Rattle.sig_terms.specs.declared.rules.Rules.{Rules}
 use Rattle.sig_terms.specs.declared.want.Want.{Want}
 use Rattle.sig_calls.specs.Proper.{IsProperCall, IsProperWant}
@@ -38,6 +38,7 @@ proper_of request rules (Publish id news) small h = h
 proper_of request rules (OperatorStatus stream status reason) small h = h
 proper_of request rules (OperatorDelete stream) small h = h
 proper_of request rules (Streams from) small h = h
+proper_of request rules (Refused from) small h = h
 proper_of request rules Figures small h = h
 proper_of request rules (Deliver stream) small h = h
 proper_of request rules (Hand streams) small h = absurd h

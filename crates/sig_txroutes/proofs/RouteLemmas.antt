@@ -78,4 +78,5 @@ route_at (route.Operator operator.SetStatus) path h = exactly (route.Operator op
 route_at (route.Operator operator.Deliver) path h = exactly (route.Operator operator.Deliver) path (codes "/operator/deliver") h refl
 route_at (route.OperatorQuery overseen.Delete) path h = exactly (route.OperatorQuery overseen.Delete) path (codes "/operator/stream") h refl
 route_at (route.OperatorQuery overseen.Streams) path h = exactly (route.OperatorQuery overseen.Streams) path (codes "/operator/streams") h refl
+route_at (route.OperatorQuery overseen.Refused) path h = exactly (route.OperatorQuery overseen.Refused) path (codes "/operator/refused") h refl
 route_at (route.OperatorQuery overseen.Figures) path h = exactly (route.OperatorQuery overseen.Figures) path (codes "/operator/metrics") h refl

@@ -1,12 +1,13 @@
 -- No fraction stands in what the transmitter tells.
-use Rattle.std.proofs.Common.{◌≡◌, ◌||◌, ℕ, List, [], ◌∷◌, Bool, true, false, Option, Some, None, Ordering, Less, Equal, Greater, nat_cmp, refl, codes}
-use Rattle.std.specs.Prelude.{IfSome, option_map}
+use Rattle.std.proofs.Common.{◌≡◌, ◌||◌, ℕ, List, [], ◌∷◌, Bool, true, false, ◌==◌, Option, Some, None, Ordering, Less, Equal, Greater, nat_cmp, refl, codes}
+use Rattle.std.specs.Prelude.{IfSome, if◌then◌else◌, option_map}
 use Rattle.std.specs.Cmp.Lexicographic.{slice_cmp}
 use Rattle.std.specs.Ordering.{match_ordering}
 use Rattle.serde_json.specs.Data.{Data, string, number, unsigned, Members, no_members, member, put}
 use Rattle.serde_json.specs.Written.{has_float, members_have_float}
 use Rattle.sig_event.specs.declared.status.Status.{Status}
 use Rattle.sig_terms.specs.declared.configuration.StreamConf.{StreamConf}
+use Rattle.sig_terms.specs.declared.refused_token.RefusedToken.{RefusedToken}
 use Rattle.sig_terms.specs.declared.rules.Rules.{Rules}
 use Rattle.sig_terms.specs.declared.standing.Standing.{Standing}
 use Rattle.sig_terms.specs.declared.token.Issued.{Issued}
@@ -14,7 +15,9 @@ use Rattle.sig_terms.specs.declared.want.Delivery.{Delivery}
 use Rattle.sig_terms.specs.declared.want.Delivery.TheVariants.{Poll, Push}
 use Rattle.sig_stream.specs.Configurations.{audience_data, conf_data, delivered, delivery_data, fixed_members, put_given, supported, texts_data}
 use Rattle.sig_stream.specs.Wants.{push_method}
-use Rattle.sig_txroutes.specs.Documents.{confs_data, metadata, published_data, standing_data, standings_data, status_data, streams_data, tokens_data}
+use Rattle.sig_txroutes.specs.Documents.{confs_data, due_of, metadata, published_data, pushed_data, refused_data, refused_token_data, reported_data, standing_data, standings_data, status_data, streams_data, told_data, told_page_data, told_streams_data, tokens_data}
+use Rattle.sig_txroutes.specs.declared.told_stream.Pushed.{Pushed}
+use Rattle.sig_txroutes.specs.declared.told_stream.ToldStream.{ToldStream}
 
 neither : (a b : Bool) → a ≡ false → b ≡ false → a || b ≡ false
 neither a b h k = rw (h, k) refl
@@ -110,3 +113,40 @@ streams_whole (s ∷ standings) = neither (has_float (standing_data s)) (has_flo
 
 pub standings_whole : (next : ℕ) (standings : List Standing) → has_float (standings_data next standings) ≡ false
 standings_whole next standings = neither (has_float (streams_data standings)) false (streams_whole standings) refl
+
+-- ---- with what came of attempts
+
+due_whole : (p : Pushed) → IfSome (due_of p) (λ d. has_float d ≡ false)
+due_whole p = by (p.late == 0)
+  where
+    by : (none : Bool) → IfSome (if none then None else Some (number (unsigned p.due))) (λ d. has_float d ≡ false)
+    by true = tt
+    by false = refl
+
+pushed_whole : (o : Option Pushed) → IfSome (option_map pushed_data o) (λ d. has_float d ≡ false)
+pushed_whole None = tt
+pushed_whole (Some p) = given_whole (codes "due") (due_of p) _ (due_whole p) refl
+
+told_whole : (t : ToldStream) → has_float (told_data t) ≡ false
+told_whole t = given_whole (codes "push") (option_map pushed_data t.push) _ (pushed_whole t.push) (standing_whole t.standing)
+
+told_streams_whole : (streams : List ToldStream) → has_float (told_streams_data streams) ≡ false
+told_streams_whole [] = refl
+told_streams_whole (t ∷ streams) = neither (has_float (told_data t)) (has_float (told_streams_data streams)) (told_whole t) (told_streams_whole streams)
+
+pub told_page_whole : (next : ℕ) (streams : List ToldStream) → has_float (told_page_data next streams) ≡ false
+told_page_whole next streams = neither (has_float (told_streams_data streams)) false (told_streams_whole streams) refl
+
+-- ---- tokens that were reported as faulty
+
+refused_token_whole : (t : RefusedToken) → has_float (refused_token_data t) ≡ false
+refused_token_whole t =
+    given_whole (codes "code") (option_map (λ text. string text) t.code) _ (text_whole t.code)
+    (given_whole (codes "publish_id") (option_map (λ text. string text) t.id) _ (text_whole t.id) refl)
+
+reported_whole : (tokens : List RefusedToken) → has_float (reported_data tokens) ≡ false
+reported_whole [] = refl
+reported_whole (t ∷ tokens) = neither (has_float (refused_token_data t)) (has_float (reported_data tokens)) (refused_token_whole t) (reported_whole tokens)
+
+pub refused_whole : (next : ℕ) (tokens : List RefusedToken) → has_float (refused_data next tokens) ≡ false
+refused_whole next tokens = neither (has_float (reported_data tokens)) false (reported_whole tokens) refl

@@ -12,7 +12,7 @@ use Rattle.sig_terms.specs.declared.rules.Rules.{Rules}
 use Rattle.sig_terms.specs.declared.token.Token.{Token}
 use Rattle.sig_stream.specs.Configurations.{conf_data}
 use Rattle.sig_delivery.specs.Sets.{sets_text}
-use Rattle.sig_txroutes.specs.Documents.{confs_data, metadata, published_data, standings_data, status_data}
+use Rattle.sig_txroutes.specs.Documents.{confs_data, metadata, published_data, refused_data, standings_data, status_data}
 use Rattle.sig_txroutes.specs.Metrics.{figured}
 
 -- the response that tells what the transmitter offers, which is told to anybody and which a cache may keep
@@ -45,6 +45,7 @@ reply (answer.Asked stream number) rules = empty 204
 reply (answer.Sets tokens more) rules = page tokens more rules
 reply (answer.Published store_id tokens) rules = telling 200 (published_data store_id tokens)
 reply (answer.Standings next standings) rules = telling 200 (standings_data next standings)
+reply (answer.Refused next tokens) rules = telling 200 (refused_data next tokens)
 reply (answer.Figures publications standings) rules = figured publications standings
 reply (answer.Delivering stream) rules = empty 202
 reply (answer.Handed tokens) rules = empty 500

@@ -122,6 +122,7 @@ operator_call operator.Deliver d = result_map call.Deliver (stream_in d)
 abbrev pub operator_query : OperatorQuery → List ℕ → Result Call HttpRefusal
 operator_query overseen.Delete query = result_map call.OperatorDelete (named_stream (value_in query (codes "stream_id")))
 operator_query overseen.Streams query = result_map call.Streams (place_of (value_in query (codes "from")))
+operator_query overseen.Refused query = result_map call.Refused (place_of (value_in query (codes "from")))
 operator_query overseen.Figures query = Ok call.Figures
 
 -- ---- a poll of a client's stream (RFC 8936, section 2.4)

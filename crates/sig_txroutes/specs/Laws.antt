@@ -11,7 +11,7 @@ use Rattle.sig_event.specs.News.{IsProperNews}
 use Rattle.sig_terms.specs.declared.answer.Answer.{Answer}
 use Rattle.sig_terms.specs.declared.answer.Answer.TheVariants as answer
 use Rattle.sig_terms.specs.declared.call.Call.{Call}
-use Rattle.sig_terms.specs.declared.call.Call.TheVariants.{Metadata, Create, ReadAll, Read, Patch, Put, Delete, GetStatus, SetStatus, Add, Remove, Verify, Poll, Publish, OperatorStatus, OperatorDelete, Streams, Figures, Deliver, Hand, Settle}
+use Rattle.sig_terms.specs.declared.call.Call.TheVariants.{Metadata, Create, ReadAll, Read, Patch, Put, Delete, GetStatus, SetStatus, Add, Remove, Verify, Poll, Publish, OperatorStatus, OperatorDelete, Streams, Refused, Figures, Deliver, Hand, Settle}
 use Rattle.sig_terms.specs.declared.rules.Client.{Client}
 use Rattle.sig_terms.specs.declared.rules.Rules.{Rules}
 use Rattle.sig_terms.specs.declared.token.Token.{Token}
@@ -63,6 +63,7 @@ asker_of (Publish id news) = Operator
 asker_of (OperatorStatus stream status reason) = Operator
 asker_of (OperatorDelete stream) = Operator
 asker_of (Streams from) = Operator
+asker_of (Refused from) = Operator
 asker_of Figures = Operator
 asker_of (Deliver stream) = Operator
 asker_of (Hand streams) = Itself
@@ -130,6 +131,7 @@ IsProperOf request rules (Publish id news) = IsProperNews news
 IsProperOf request rules (OperatorStatus stream status reason) = IfSome reason IsUtf8
 IsProperOf request rules (OperatorDelete stream) = Unit {0}
 IsProperOf request rules (Streams from) = Unit {0}
+IsProperOf request rules (Refused from) = Unit {0}
 IsProperOf request rules Figures = Unit {0}
 IsProperOf request rules (Deliver stream) = Unit {0}
 IsProperOf request rules (Hand streams) = ⊥

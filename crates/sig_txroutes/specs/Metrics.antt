@@ -1,19 +1,14 @@
 -- What metrics tell of a transmitter's state, in Prometheus' text format 0.0.4: of each metric a line that says what it is, one that
 -- says its kind, and a line for each value.
-use Rattle.std.specs.Prelude.{ℕ, List, [], ◌∷◌, ◌++◌, false, Option, None, Some, codes, decimal, filter, flat_map, length}
-use Rattle.sig_http.specs.Answering.{no_store}
-use Rattle.sig_http.specs.declared.message.Header.{Header}
+use Rattle.std.specs.Prelude.{ℕ, List, [], ◌++◌, Option, None, Some, codes, filter, flat_map, length}
+use Rattle.sig_counts.specs.Tallies.{line, value}
+use Rattle.sig_counts.specs.Responses.{telling}
 use Rattle.sig_http.specs.declared.message.Response.{Response}
 use Rattle.sig_event.specs.Status.{status_text}
 use Rattle.sig_event.specs.declared.status.Status.{Status}
 use Rattle.sig_event.specs.declared.status.Status.TheVariants as status
 use Rattle.sig_terms.specs.declared.standing.Standing.{Standing}
 use Rattle.sig_calls.specs.Equality.{status_eq}
-
--- the line of a value: a metric with the name of its label and what opens its text, that text, which needs no escape, and the
--- number
-unfoldable pub line : List ℕ → List ℕ → ℕ → List ℕ
-line front label n = front ++ label ++ codes "\"} " ++ decimal n ++ codes "\n"
 
 -- ---- streams by their status
 
@@ -40,7 +35,7 @@ unfoldable pub publications_head : List ℕ
 publications_head = codes "# HELP signals_publications_total Publications that stand.\n# TYPE signals_publications_total counter\nsignals_publications_total "
 
 abbrev pub publications_part : ℕ → List ℕ
-publications_part publications = publications_head ++ decimal publications ++ codes "\n"
+publications_part publications = value publications_head publications
 
 -- ---- what each stream owes
 
@@ -94,14 +89,10 @@ unfoldable pub metrics_text : ℕ → List Standing → List ℕ
 metrics_text publications standings =
     streams_part standings ++ publications_part publications ++ owed_part standings ++ oldest_part standings ++ made_part standings
 
--- the response that tells them, which no cache may keep
-abbrev pub is_metrics : Header
-is_metrics = record { name = codes "content-type"; value = codes "text/plain; version=0.0.4" }
-
+-- the response that tells them
 abbrev pub figured : ℕ → List Standing → Response
-figured publications standings = record {
-  status = 200;
-  headers = is_metrics ∷ no_store ∷ [];
-  close = false;
-  body = metrics_text publications standings;
-}
+figured publications standings = telling (metrics_text publications standings)
+
+-- with what was counted behind them
+abbrev pub figured_with : ℕ → List Standing → List ℕ → Response
+figured_with publications standings counted = telling (metrics_text publications standings ++ counted)

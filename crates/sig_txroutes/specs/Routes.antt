@@ -43,6 +43,7 @@ row_of (route.Operator operator.SetStatus) = at (codes "POST") (codes "/operator
 row_of (route.Operator operator.Deliver) = at (codes "POST") (codes "/operator/deliver")
 row_of (route.OperatorQuery overseen.Delete) = at (codes "DELETE") (codes "/operator/stream")
 row_of (route.OperatorQuery overseen.Streams) = at (codes "GET") (codes "/operator/streams")
+row_of (route.OperatorQuery overseen.Refused) = at (codes "GET") (codes "/operator/refused")
 row_of (route.OperatorQuery overseen.Figures) = at (codes "GET") (codes "/operator/metrics")
 
 -- every route, in the order of the table
@@ -55,7 +56,8 @@ routes =
     ∷ route.Body body.Verify
     ∷ route.Poll
     ∷ route.Operator operator.Publish ∷ route.Operator operator.SetStatus ∷ route.Operator operator.Deliver
-    ∷ route.OperatorQuery overseen.Delete ∷ route.OperatorQuery overseen.Streams ∷ route.OperatorQuery overseen.Figures
+    ∷ route.OperatorQuery overseen.Delete ∷ route.OperatorQuery overseen.Streams ∷ route.OperatorQuery overseen.Refused
+    ∷ route.OperatorQuery overseen.Figures
     ∷ []
 
 -- the path is the row's, or goes on from it with a stream's name

@@ -9,12 +9,15 @@ ghost use Rattle.sig_txroutes.specs.Metrics as metrics;
 
 use crate::document::{confs_value, metadata, published_value, standings_value, status_value};
 use crate::metrics::metrics_text;
+use crate::refused::refused_value;
+use crate::told_stream::{ToldStream, told_page};
+use sig_counts::telling as telling_metrics;
 use sig_delivery::{Token, write_sets};
 use sig_event::Status;
-use sig_http::{HttpRefusal, Response, empty, header, json, no_store, refusal_of};
+use sig_http::{HttpRefusal, Response, empty, header, json, refusal_of};
 use sig_json::{Bytes, Items, Memory, Text, Value, canon};
 use sig_stream::conf_json;
-use sig_terms::{Answer, Issued, Rules, Standing, StreamConf};
+use sig_terms::{Answer, Issued, RefusedToken, Rules, Standing, StreamConf};
 use std::alloc::Global;
 
 /// The response to an answer, which has one status: 200 for what was read, changed, published or added, 201 for a new
@@ -39,6 +42,7 @@ pub fn response_of(alloc: Global, answer: &Answer, rules: &Rules) -> Result<Resp
         } => standing(alloc, stream, *status, reason),
         Answer::Published { store_id, tokens } => published(alloc, *store_id, tokens.as_slice()),
         Answer::Standings { next, standings } => listed(alloc, *next, standings.as_slice()),
+        Answer::Refused { next, tokens } => reported(alloc, *next, tokens.as_slice()),
         Answer::Figures {
             publications,
             standings,
@@ -127,21 +131,46 @@ fn listed(alloc: Global, next: u64, standings: &[Standing]) -> Result<Response, 
     telling(alloc, 200, &value)
 }
 
+// Tokens that were reported as faulty, and the place behind them.
+#[tactic(auto, using(crate::proofs::WholeDocuments::refused_whole))]
+fn reported(alloc: Global, next: u64, tokens: &[RefusedToken]) -> Result<Response, Memory>
+    ensures { IfOk result (λ response. response ≡ spec.telling 200 (documents.refused_data next tokens.now)) }
+{
+    let value = refused_value(alloc, next, tokens)?;
+    telling(alloc, 200, &value)
+}
+
+/// The response that tells how streams stand, each with what came of the attempts to bring it its tokens, and the place behind
+/// them. Out of memory is the only error.
+pub fn listed_with(alloc: Global, next: u64, streams: &[ToldStream]) -> Result<Response, Memory>
+    ensures { IfOk result (λ response. response ≡ spec.telling 200 (documents.told_page_data next streams.now)) }
+{
+    let value = told_page(alloc, next, streams)?;
+    telling(alloc, 200, &value)
+}
+
 // The figures of the transmitter, in Prometheus' text format.
 fn figured(alloc: Global, publications: u64, standings: &[Standing]) -> Result<Response, Memory>
     ensures { IfOk result (λ response. response ≡ metrics.figured publications standings.now) }
 {
     let text = metrics_text(alloc, publications, standings)?;
-    let body = Bytes::of(alloc, text.as_str().as_bytes())?;
-    let mut headers = Vec::new(alloc);
-    headers.push(header(alloc, "content-type", "text/plain; version=0.0.4")?)?;
-    headers.push(no_store(alloc)?)?;
-    Ok(Response {
-        status: 200,
-        headers: Items::of(headers),
-        close: false,
-        body,
-    })
+    telling_metrics(alloc, text.as_str())
+}
+
+/// The response that tells the figures of the transmitter, in which so many publications and these streams stand, and then
+/// what was counted, which is metrics in the same format. Out of memory is the only error.
+pub fn figured_with(
+    alloc: Global,
+    publications: u64,
+    standings: &[Standing],
+    counted: &str,
+) -> Result<Response, Memory>
+    ensures { IfOk result (λ response. response ≡ metrics.figured_with publications standings.now counted.now) }
+{
+    let text = metrics_text(alloc, publications, standings)?;
+    let mut all = String::from_str(alloc, text.as_str())?;
+    all.push_str(counted)?;
+    telling_metrics(alloc, all.as_str())
 }
 
 // The response that tells a value in which no fraction stands.

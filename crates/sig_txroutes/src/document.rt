@@ -202,6 +202,17 @@ fn streams_value(alloc: Global, standings: &[Standing]) -> Result<Value, Memory>
 fn standing_value(alloc: Global, standing: &Standing) -> Result<Value, Memory>
     ensures { IfOk result (λ v. view v ≡ spec.standing_data standing.now) }
 {
+    let members = standing_members(alloc, standing)?;
+    Ok(Value::Object(members))
+}
+
+// How a stream stands, as the members of an object.
+pub(crate) fn standing_members(
+    alloc: Global,
+    standing: &Standing,
+) -> Result<Map<String, Value>, Memory>
+    ensures { IfOk result (λ ms. members_view ms.entries ≡ spec.standing_members standing.now) }
+{
     let status = text_value(alloc, standing.status.as_str())?;
     let stream = text_value(alloc, standing.stream.as_str())?;
     let mut members = Map::new(alloc);
@@ -210,7 +221,7 @@ fn standing_value(alloc: Global, standing: &Standing) -> Result<Value, Memory>
     put_value(alloc, &mut members, "status", status)?;
     put_value(alloc, &mut members, "stream_id", stream)?;
     put_oldest(alloc, &mut members, standing.oldest)?;
-    Ok(Value::Object(members))
+    Ok(members)
 }
 
 fn put_oldest(
@@ -227,7 +238,7 @@ fn put_oldest(
     }
 }
 
-fn text_value(alloc: Global, text: &str) -> Result<Value, Memory>
+pub(crate) fn text_value(alloc: Global, text: &str) -> Result<Value, Memory>
     ensures { IfOk result (λ v. view v ≡ string text.now) }
 {
     Ok(Value::String(String::from_str(alloc, text)?))

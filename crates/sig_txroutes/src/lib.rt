@@ -30,8 +30,12 @@ pub mod laws;
 mod metrics;
 mod operator;
 mod place;
+mod refused;
 mod route;
 mod routing;
+mod told_stream;
 
-pub use answering::response_of;
+pub use answering::{figured_with, listed_with, response_of};
+pub use route::{Row, row_for};
 pub use routing::call_of;
+pub use told_stream::{Pushed, ToldStream};

@@ -4,6 +4,7 @@ ghost use Rattle.std.specs.Prelude.{◌≡◌, ◌++◌, IfOk, OnOk, flat_map, s
 ghost use Rattle.sig_calls.specs.Equality.{status_eq};
 ghost use Rattle.sig_txroutes.specs.Metrics as spec;
 
+use sig_counts::{put_line, put_value};
 use sig_event::Status;
 use sig_json::{Listed, Memory, Text};
 use sig_terms::Standing;
@@ -19,34 +20,29 @@ pub fn metrics_text(
     ensures { IfOk result (λ t. t ≡ spec.metrics_text publications standings.now) }
 {
     let mut text = String::new(alloc);
-    put_streams(alloc, &mut text, standings)?;
-    put_publications(alloc, &mut text, publications)?;
-    put_owed(alloc, &mut text, standings)?;
-    put_oldest(alloc, &mut text, standings)?;
-    put_made(alloc, &mut text, standings)?;
+    put_streams(&mut text, standings)?;
+    put_publications(&mut text, publications)?;
+    put_owed(&mut text, standings)?;
+    put_oldest(&mut text, standings)?;
+    put_made(&mut text, standings)?;
     Ok(Text::from_string(text))
 }
 
 // How many streams stand with each status.
-fn put_streams(alloc: Global, text: &mut String, standings: &[Standing]) -> Result<(), Memory>
+fn put_streams(text: &mut String, standings: &[Standing]) -> Result<(), Memory>
     ensures { OnOk result (string_bytes text.new ≡ string_bytes text.old ++ spec.streams_part standings.now) }
 {
     text.push_str(streams_head())?;
-    put_status(alloc, text, Status::Enabled, standings)?;
-    put_status(alloc, text, Status::Paused, standings)?;
-    put_status(alloc, text, Status::Disabled, standings)
+    put_status(text, Status::Enabled, standings)?;
+    put_status(text, Status::Paused, standings)?;
+    put_status(text, Status::Disabled, standings)
 }
 
-fn put_status(
-    alloc: Global,
-    text: &mut String,
-    status: Status,
-    standings: &[Standing],
-) -> Result<(), Memory>
+fn put_status(text: &mut String, status: Status, standings: &[Standing]) -> Result<(), Memory>
     ensures { OnOk result (string_bytes text.new ≡ string_bytes text.old ++ spec.status_line status standings.now) }
 {
     let count = count_of(status, standings) as u64;
-    put_line(alloc, text, streams_front(), status.as_str(), count)
+    put_line(text, streams_front(), status.as_str(), count)
 }
 
 // How many of the streams have this status.
@@ -69,119 +65,85 @@ fn is_same(one: Status, two: Status) -> bool
 }
 
 // How many publications stand.
-fn put_publications(alloc: Global, text: &mut String, publications: u64) -> Result<(), Memory>
+fn put_publications(text: &mut String, publications: u64) -> Result<(), Memory>
     ensures { OnOk result (string_bytes text.new ≡ string_bytes text.old ++ spec.publications_part publications) }
 {
-    text.push_str(publications_head())?;
-    let number = format!(in alloc; "{publications}\n")?;
-    text.push_str(number.as_str())?;
-    Ok(())
+    put_value(text, publications_head(), publications)
 }
 
 // How many tokens each stream owes.
-fn put_owed(alloc: Global, text: &mut String, standings: &[Standing]) -> Result<(), Memory>
+fn put_owed(text: &mut String, standings: &[Standing]) -> Result<(), Memory>
     ensures { OnOk result (string_bytes text.new ≡ string_bytes text.old ++ spec.owed_part standings.now) }
 {
     text.push_str(owed_head())?;
-    put_owed_lines(alloc, text, standings)
+    put_owed_lines(text, standings)
 }
 
-fn put_owed_lines(alloc: Global, text: &mut String, standings: &[Standing]) -> Result<(), Memory>
+fn put_owed_lines(text: &mut String, standings: &[Standing]) -> Result<(), Memory>
     ensures { OnOk result (string_bytes text.new ≡ string_bytes text.old ++ flat_map spec.owed_line standings.now) }
 {
     for standing in standings {
-        put_owed_line(alloc, text, standing)?;
+        put_owed_line(text, standing)?;
     }
     Ok(())
 }
 
-fn put_owed_line(alloc: Global, text: &mut String, standing: &Standing) -> Result<(), Memory>
+fn put_owed_line(text: &mut String, standing: &Standing) -> Result<(), Memory>
     ensures { OnOk result (string_bytes text.new ≡ string_bytes text.old ++ spec.owed_line standing.now) }
 {
-    put_line(
-        alloc,
-        text,
-        owed_front(),
-        standing.stream.as_str(),
-        standing.owed,
-    )
+    put_line(text, owed_front(), standing.stream.as_str(), standing.owed)
 }
 
 // Since when each stream owes a token, where it owes one.
-fn put_oldest(alloc: Global, text: &mut String, standings: &[Standing]) -> Result<(), Memory>
+fn put_oldest(text: &mut String, standings: &[Standing]) -> Result<(), Memory>
     ensures { OnOk result (string_bytes text.new ≡ string_bytes text.old ++ spec.oldest_part standings.now) }
 {
     text.push_str(oldest_head())?;
-    put_oldest_lines(alloc, text, standings)
+    put_oldest_lines(text, standings)
 }
 
-fn put_oldest_lines(alloc: Global, text: &mut String, standings: &[Standing]) -> Result<(), Memory>
+fn put_oldest_lines(text: &mut String, standings: &[Standing]) -> Result<(), Memory>
     ensures { OnOk result (string_bytes text.new ≡ string_bytes text.old ++ flat_map spec.oldest_line standings.now) }
 {
     for standing in standings {
-        put_oldest_line(alloc, text, standing)?;
+        put_oldest_line(text, standing)?;
     }
     Ok(())
 }
 
-fn put_oldest_line(alloc: Global, text: &mut String, standing: &Standing) -> Result<(), Memory>
+fn put_oldest_line(text: &mut String, standing: &Standing) -> Result<(), Memory>
     ensures { OnOk result (string_bytes text.new ≡ string_bytes text.old ++ spec.oldest_line standing.now) }
 {
     match standing.oldest {
         None => Ok(()),
         Some(time) => {
             let front = oldest_front();
-            put_line(alloc, text, front, standing.stream.as_str(), time)
+            put_line(text, front, standing.stream.as_str(), time)
         }
     }
 }
 
 // How many tokens were made for each stream.
-fn put_made(alloc: Global, text: &mut String, standings: &[Standing]) -> Result<(), Memory>
+fn put_made(text: &mut String, standings: &[Standing]) -> Result<(), Memory>
     ensures { OnOk result (string_bytes text.new ≡ string_bytes text.old ++ spec.made_part standings.now) }
 {
     text.push_str(made_head())?;
-    put_made_lines(alloc, text, standings)
+    put_made_lines(text, standings)
 }
 
-fn put_made_lines(alloc: Global, text: &mut String, standings: &[Standing]) -> Result<(), Memory>
+fn put_made_lines(text: &mut String, standings: &[Standing]) -> Result<(), Memory>
     ensures { OnOk result (string_bytes text.new ≡ string_bytes text.old ++ flat_map spec.made_line standings.now) }
 {
     for standing in standings {
-        put_made_line(alloc, text, standing)?;
+        put_made_line(text, standing)?;
     }
     Ok(())
 }
 
-fn put_made_line(alloc: Global, text: &mut String, standing: &Standing) -> Result<(), Memory>
+fn put_made_line(text: &mut String, standing: &Standing) -> Result<(), Memory>
     ensures { OnOk result (string_bytes text.new ≡ string_bytes text.old ++ spec.made_line standing.now) }
 {
-    put_line(
-        alloc,
-        text,
-        made_front(),
-        standing.stream.as_str(),
-        standing.made,
-    )
-}
-
-// The line of a value: what opens its label, the label's text, and a number.
-#[tactic(auto, unfolding(crate::specs::Metrics::line))]
-fn put_line(
-    alloc: Global,
-    text: &mut String,
-    front: &str,
-    label: &str,
-    number: u64,
-) -> Result<(), Memory>
-    ensures { OnOk result (string_bytes text.new ≡ string_bytes text.old ++ spec.line front.now label.now number) }
-{
-    text.push_str(front)?;
-    text.push_str(label)?;
-    text.push_str("\"} ")?;
-    let number = format!(in alloc; "{number}\n")?;
-    text.push_str(number.as_str())?;
-    Ok(())
+    put_line(text, made_front(), standing.stream.as_str(), standing.made)
 }
 
 // What opens each metric, and each line of a value. No other function reads these texts.

@@ -53,6 +53,9 @@ pub fn operator_query(alloc: Global, route: OperatorQuery, query: &str) -> Resul
         OperatorQuery::Streams => Ok(Call::Streams {
             from: from_in(alloc, query)?,
         }),
+        OperatorQuery::Refused => Ok(Call::Refused {
+            from: from_in(alloc, query)?,
+        }),
         OperatorQuery::Figures => Ok(Call::Figures),
     }
 }

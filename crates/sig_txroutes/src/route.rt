@@ -1,6 +1,6 @@
 //! The table of routes.
 
-ghost use Rattle.std.specs.Prelude.{◌≡◌, IfOk, codes, false, find, map};
+ghost use Rattle.std.specs.Prelude.{◌≡◌, IfOk, codes, false, find, map, option_map};
 ghost use Rattle.std.specs.List.{join_by};
 ghost use Rattle.sig_json.specs.Answers.{Answers};
 ghost use Rattle.sig_txroutes.specs.Routes as spec;
@@ -74,6 +74,8 @@ pub enum OperatorQuery {
     Delete,
     /// It reads how the streams of all clients stand.
     Streams,
+    /// It reads which tokens were reported as faulty.
+    Refused,
     /// It reads the figures of the transmitter.
     Figures,
 }
@@ -122,6 +124,7 @@ impl Route {
             Route::Operator(OperatorCall::Deliver),
             Route::OperatorQuery(OperatorQuery::Delete),
             Route::OperatorQuery(OperatorQuery::Streams),
+            Route::OperatorQuery(OperatorQuery::Refused),
             Route::OperatorQuery(OperatorQuery::Figures),
         ]
     }
@@ -155,6 +158,7 @@ impl Route {
             Route::Operator(OperatorCall::Deliver) => at("POST", "/operator/deliver"),
             Route::OperatorQuery(OperatorQuery::Delete) => at("DELETE", "/operator/stream"),
             Route::OperatorQuery(OperatorQuery::Streams) => at("GET", "/operator/streams"),
+            Route::OperatorQuery(OperatorQuery::Refused) => at("GET", "/operator/refused"),
             Route::OperatorQuery(OperatorQuery::Figures) => at("GET", "/operator/metrics"),
         }
     }
@@ -194,6 +198,17 @@ pub fn route_for(alloc: Global, method: &str, path: &str) -> Result<Route, HttpR
         None => Err(HttpRefusal::Method {
             allow: allowed(alloc, path)?,
         }),
+    }
+}
+
+/// The row of the route for requests of this method at this path, where there is one.
+pub fn row_for(method: &str, path: &str) -> Option<Row>
+    ensures method { option_map (λ row. row.method.now) result ≡ option_map spec.method_of (find (spec.is_for method.now path.now) spec.routes) }
+    ensures path { option_map (λ row. row.path.now) result ≡ option_map (λ r. (spec.row_of r).path) (find (spec.is_for method.now path.now) spec.routes) }
+{
+    match found(method, path) {
+        Some(route) => Some(route.row()),
+        None => None,
     }
 }
 

@@ -49,7 +49,7 @@ errand_comes old new came is same = errand_by old new came came.is_errand is sam
 pub of_shut : {L S : Type 0} (answer : Accepted L S) (holds : Type 0) → answer ≡ Shut → IfShut answer holds → holds
 of_shut {L} {S} answer holds is h = subst (λ (a : Accepted L S). IfShut a holds) is h
 
-pub of_waited : {L S : Type 0} (answer : Accepted L S) (holds : Type 0) → answer ≡ Waited → IfWaited answer holds → holds
+pub of_waited : {L S : Type 0} (answer : Accepted L S) (holds : Type 0) {lacking : Bool} → answer ≡ Waited lacking → IfWaited answer holds → holds
 of_waited {L} {S} answer holds is h = subst (λ (a : Accepted L S). IfWaited a holds) is h
 
 -- a door of which all is as it was, and one of which all but its faults is

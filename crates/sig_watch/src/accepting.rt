@@ -65,6 +65,13 @@ where
     }
 }
 
+// Has the host know where an accept lacked something.
+fn heed<R: Wait, H: Host>(rt: &R, host: &H, lacking: bool) {
+    if lacking {
+        host.accept_lacked(rt);
+    }
+}
+
 // Accepts the next link, for which a place is free, unless the door gives none.
 fn accept_next<'s, E, R, H, L, S, A, V>(
     scope: &Scope<'s, E>,
@@ -101,7 +108,10 @@ where
             take_in(scope, rt, host, endings, door, course, V::of(link, side));
             None
         }
-        Ok(Accepted::Waited) => None,
+        Ok(Accepted::Waited { lacking }) => {
+            heed(rt, host, lacking);
+            None
+        }
         Ok(Accepted::Shut) => Some(Stop::Shut),
         Err(Failed) => Some(Stop::Failed),
     }

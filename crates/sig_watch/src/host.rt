@@ -26,6 +26,9 @@ pub trait Host {
     /// the errand is begun next. It may wait for the links that are served.
     fn wants_errand<R: Wait>(&self, rt: &R, now: u64) -> bool;
 
+    /// It is told that the system lacked something for a while that an accept needs.
+    fn accept_lacked<R: Wait>(&self, rt: &R);
+
     /// Does an errand under this number. It may wait for links that it dials, and for others that are served.
     fn errand<R: Wait, S: Side>(&self, rt: &R, number: u32, side: &mut S) -> Self::Log
         ensures { serves self.now number result (errand (S.view side.old)) (errand (S.view side.new)) };

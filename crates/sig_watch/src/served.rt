@@ -41,6 +41,9 @@ pub trait Served: Lasting {
     /// the errand is begun next.
     fn wants_errand(company: &mut Self::Company, now: u64) -> bool;
 
+    /// What is known beside the node is told that the system lacked something for a while that an accept needs.
+    fn accept_lacked(company: &mut Self::Company);
+
     /// Does an errand under this number, with the node under its lock as what answers its calls. It may wait for links that it
     /// dials, and for others that ask the node.
     fn errand<O: Opened<Self::Node> + Naming, R: Wait, S: Side>(

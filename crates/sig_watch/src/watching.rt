@@ -94,6 +94,11 @@ impl<E: Served<Log: Send>, O: Opened<E::Node> + Naming + Send> Host for Locked<E
         E::wants_errand(&mut (*shared).company, now)
     }
 
+    fn accept_lacked<R: Wait>(&self, rt: &R) {
+        let mut shared = self.node.lock(rt);
+        E::accept_lacked(&mut (*shared).company);
+    }
+
     fn errand<R: Wait, S: Side>(&self, rt: &R, number: u32, side: &mut S) -> Receipt<O, E::Log> {
         let log = E::errand(self.alloc, rt, &self.node, &self.rules, number, side);
         let mut shared = self.node.lock(rt);

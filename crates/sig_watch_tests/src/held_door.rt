@@ -120,7 +120,7 @@ impl<'a, C: Clock + Sync> Door for HeldDoor<'a, C> {
                 return Err(self.faults.raise());
             }
             self.board.pass(pause.seconds);
-            return Ok(Accepted::Waited);
+            return Ok(Accepted::Waited { lacking: false });
         }
         match self.plans.pop() {
             Some(plan) => {

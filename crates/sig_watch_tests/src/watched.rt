@@ -2,6 +2,7 @@
 
 ghost use Rattle.std.specs.Prelude.{◌≡◌, None};
 
+use sig_counts::Counts;
 use sig_links::Door;
 use sig_outside::Disk;
 use sig_rxend::Receiver;
@@ -26,7 +27,7 @@ pub fn watch_transmitter<R: Threads + Wait + Sync, D: Disk + Send, A: Door>(
     serve_watch::<Transmitter<D>, R, A>(alloc, rt, node, company, door)
 }
 
-/// One watch of a receiver.
+/// One watch of a receiver that has counted nothing yet.
 pub fn watch_receiver<R: Threads + Wait + Sync, D: Disk + Send, A: Door>(
     alloc: Global,
     rt: &R,
@@ -35,5 +36,18 @@ pub fn watch_receiver<R: Threads + Wait + Sync, D: Disk + Send, A: Door>(
 ) -> WatchEnd<RxNode<D>>
     requires { node.kept.store.broken_at ≡ None }
 {
-    serve_watch::<Receiver<D>, R, A>(alloc, rt, node, (), door).0
+    watch_counting(alloc, rt, node, Counts::new(alloc), door)
+}
+
+// One watch of a receiver, over what was counted before it.
+fn watch_counting<R: Threads + Wait + Sync, D: Disk + Send, A: Door>(
+    alloc: Global,
+    rt: &R,
+    node: RxNode<D>,
+    counts: Counts,
+    door: &mut A,
+) -> WatchEnd<RxNode<D>>
+    requires { node.kept.store.broken_at ≡ None }
+{
+    serve_watch::<Receiver<D>, R, A>(alloc, rt, node, counts, door).0
 }

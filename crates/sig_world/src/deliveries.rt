@@ -147,6 +147,6 @@ fn heard_in(answer: RxAnswer) -> Option<Heard>
         RxAnswer::Accepted => Some(Heard::Accepted),
         RxAnswer::Seen => Some(Heard::Seen),
         RxAnswer::Refused { code, spot } => Some(Heard::NotTaken { code, spot }),
-        RxAnswer::Verdict(_) | RxAnswer::Rows(_) => None,
+        RxAnswer::Verdict(_) | RxAnswer::Rows(_) | RxAnswer::Figures { .. } => None,
     }
 }

@@ -26,6 +26,7 @@ pub(crate) fn add_call(
         Answer::Meta
         | Answer::Confs { .. }
         | Answer::Standings { .. }
+        | Answer::Refused { .. }
         | Answer::Figures { .. }
         | Answer::Delivering { .. } => Ok(()),
         Answer::Made { conf } => add_two(alloc, text, number, "made ", conf.stream.as_str()),

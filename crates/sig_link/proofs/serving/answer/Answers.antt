@@ -10,10 +10,10 @@ returns-in-Err-clause-answers g c =
 pub returns-in-Ok-respond-clause-answers : goal.returns-in-Ok-respond-clause-answers
 returns-in-Ok-respond-clause-answers g c =
     let ends = c.end_after.ensures ∙ ap (end_after c.args.request.now) c.is_err-starved.ensures.value in
-    answered_whole _ _ _ _ _ c.in-Ok.course g.met.E.End.grows c.closes_after-close.result _ _ _ _ _ _ _ _ _ _ _ _ _ _ c.closes_after-close.ensures ends
-    c.in-Ok.ensures.comes c.in-Ok.ensures.told c.in-Ok.ensures.turns c.in-Ok-respond.ensures.responds c.follow.ensures.follows
+    answered_whole _ _ _ _ _ c.in-Ok.course g.met.E.End.grows c.closes_after-close.result _ _ _ _ _ _ _ _ _ _ _ _ _ _ _ c.closes_after-close.ensures ends
+    c.in-Ok.ensures.comes c.in-Ok.ensures.told c.in-Ok.ensures.turns c.in-Ok-respond.ensures.answered c.in-Ok-respond.ensures.told c.follow.ensures.follows
 
 pub returns-in-Err-respond-clause-answers : goal.returns-in-Err-respond-clause-answers
 returns-in-Err-respond-clause-answers g c =
-    answered_not _ _ _ _ _ c.in-Ok.course c.closes_after-close.result c.in-Err-respond.end _ _ _ _ _ _ _ _ _ c.closes_after-close.ensures
-    c.in-Ok.ensures.comes c.in-Ok.ensures.told c.in-Ok.ensures.turns c.keep.ensures.turns c.in-Err-respond.ensures.responds
+    answered_not _ _ _ _ _ c.in-Ok.course c.closes_after-close.result c.in-Err-respond.end _ _ _ _ _ _ _ _ _ _ c.closes_after-close.ensures
+    c.in-Ok.ensures.comes c.in-Ok.ensures.told c.in-Ok.ensures.turns c.keep.ensures.turns c.in-Err-respond.ensures.answered c.in-Err-respond.ensures.told

@@ -1,23 +1,52 @@
-use Rattle.sig_outside.proofs.CauseLemmas.{raised_rose}
-use Rattle.std.proofs.Common.{inl, refl}
-use Rattle.sig_opening.proofs.DoorLemmas.{doors_same, risen_more, served_at}
-use Rattle.sig_opening.specs.Watches.{RunsTo}
-use Rattle.sig_receive.specs.Door.{with_door}
-use Rattle.sig_receive.specs.Watches.{IsWatch, tells_of}
+use Rattle.std.proofs.Common.{◌∙◌, refl, sym, subst}
+use Rattle.sig_outside.proofs.CauseLemmas.{later_rose}
+use Rattle.sig_opening.specs.Ends.{IsEndOfWatches}
+use Rattle.sig_opening.specs.declared.ending.ServeEnd.TheVariants.{NetworkFailed}
+use Rattle.sig_opening.proofs.EndLemmas.{broken_where, load_damaged, load_ends, load_failed, load_missing, load_other, not_missing}
+use Rattle.sig_opening.proofs.FilesLemmas.{same_told}
+use Rattle.sig_receive.specs.Ends.{state_of}
+use Rattle.sig_receive.proofs.ServingLemmas.{serves_at, stays_told}
 use Rattle.sig_receive.proofs.serving.serve_at.Goals as goal
+
+pub returns-in-Ok-clause-no_store : goal.returns-in-Ok-clause-no_store
+returns-in-Ok-clause-no_store g c = λ is. absurd (subst IsEndOfWatches is c.run_watches-node.ensures.runs.ends.kind)
+
+pub returns-in-Ok-clause-damaged : goal.returns-in-Ok-clause-damaged
+returns-in-Ok-clause-damaged g c = λ file at is. absurd (subst IsEndOfWatches is c.run_watches-node.ensures.runs.ends.kind)
+
+pub returns-in-Ok-clause-missing : goal.returns-in-Ok-clause-missing
+returns-in-Ok-clause-missing g c = λ lacks. absurd (not_missing _ _ c.in-Ok.ensures.found lacks)
+
+pub returns-in-Ok-clause-store_failed : goal.returns-in-Ok-clause-store_failed
+returns-in-Ok-clause-store_failed g c = λ is.
+    later_rose _ _ _ c.in-Ok.ensures.later (c.give_back.ensures.counted (broken_where _ _ is c.run_watches-node.ensures.breaks))
 
 pub returns-in-Ok-clause-serves : goal.returns-in-Ok-clause-serves
 returns-in-Ok-clause-serves g c =
-    served_at (with_door g.X.D.Disk.told) (RunsTo (IsWatch c.args.node.rules) tells_of c.run_watches-served.result.end c.args.watches) _ _ _ _ _ _ _ _ _ _ _ _ _ _ _ c.run_watches-served.ensures.runs
-    c.in-Ok.ensures.place c.in-Ok.ensures.next c.back_door.ensures.doors c.in-Ok.ensures.begins c.in-Ok.ensures.whole c.in-Ok.ensures.back c.in-Ok.ensures.lends c.back_door.ensures.back
+    serves_at g.X.D.Disk.told g.X.D.Disk.seen _ _ _ _ _ c.in-Ok.node c.run_watches-node.result.node c.in-Ok.ensures.opens c.run_watches-node.ensures.runs c.run_watches-node.ensures.breaks
+    c.give_back.ensures.tells c.give_back.ensures.a c.give_back.ensures.b
 
-pub returns-in-Ok-clause-network : goal.returns-in-Ok-clause-network
-returns-in-Ok-clause-network g c = λ failed.
-    risen_more _ _ _ _ c.in-Ok.ensures.cause.stays (c.run_watches-served.ensures.network failed) c.back_door.ensures.faults
+pub returns-in-Ok-clause-back : goal.returns-in-Ok-clause-back
+returns-in-Ok-clause-back g c =
+    stays_told g.X.D.Disk.told g.X.D.Disk.seen _ _ _ _ _ _ _ _ _ c.in-Ok.node c.run_watches-node.result.node c.in-Ok.ensures.opens c.run_watches-node.ensures.runs c.give_back.ensures.a c.give_back.ensures.b
 
-pub returns-in-Err-clause-serves : goal.returns-in-Err-clause-serves
-returns-in-Err-clause-serves g c =
-    inl (record { failed = refl; doors = doors_same _ _ _ _ c.in-Err.ensures.none.0 c.in-Err.ensures.back; node = refl })
+pub returns-clause-store_failed : goal.returns-clause-store_failed
+returns-clause-store_failed g c = λ is. load_failed state_of c.in-Err.cause _ _ _ _ _ c.in-Err.ensures.halts (sym c.of_unopened.ensures ∙ is)
 
-pub returns-in-Err-clause-network : goal.returns-in-Err-clause-network
-returns-in-Err-clause-network g c = λ failed. raised_rose _ _ c.in-Err.ensures.cause.failed
+pub returns-clause-no_store : goal.returns-clause-no_store
+returns-clause-no_store g c = λ is. load_missing state_of c.in-Err.cause _ _ _ _ _ c.in-Err.ensures.halts (sym c.of_unopened.ensures ∙ is)
+
+pub returns-clause-damaged : goal.returns-clause-damaged
+returns-clause-damaged g c = λ file at is. load_damaged state_of c.in-Err.cause _ _ _ _ _ c.in-Err.ensures.halts file at (sym c.of_unopened.ensures ∙ is)
+
+pub returns-clause-network_failed : goal.returns-clause-network_failed
+returns-clause-network_failed g c = λ is. absurd (load_other c.in-Err.cause NetworkFailed (λ k. k) (sym c.of_unopened.ensures ∙ is))
+
+pub returns-clause-serves : goal.returns-clause-serves
+returns-clause-serves g c = load_ends c.in-Err.cause _ _ _ _ c.of_unopened.ensures (record { files = c.in-Err.ensures.back; door = refl })
+
+pub returns-clause-missing : goal.returns-clause-missing
+returns-clause-missing g c = λ lacks. load_ends c.in-Err.cause _ _ _ _ c.of_unopened.ensures (record { files = c.in-Err.ensures.back; door = refl })
+
+pub returns-clause-back : goal.returns-clause-back
+returns-clause-back g c = (same_told _ _ c.in-Err.ensures.back.0, same_told _ _ c.in-Err.ensures.back.1)

@@ -1,73 +1,102 @@
-use Rattle.std.proofs.Common.{◌∙◌, sym, subst, arith}
-use Rattle.sig_outside.proofs.CauseLemmas.{later_rose}
-use Rattle.sig_opening.specs.Ends.{IsEndOfWatches}
-use Rattle.sig_opening.specs.declared.ending.ServeEnd.TheVariants.{SettingsFailed, Refused, NetworkFailed}
-use Rattle.sig_opening.proofs.DoorLemmas.{doors_same}
-use Rattle.sig_opening.proofs.EndLemmas.{broken_where, load_damaged, load_early, load_ends, load_failed, load_missing, load_other, not_missing}
-use Rattle.sig_opening.proofs.FilesLemmas.{same_told}
-use Rattle.sig_receive.specs.Ends.{state_of}
-use Rattle.sig_receive.proofs.ServingLemmas.{by_doors, ends_watches, serves_store, stays_told}
+use Rattle.std.proofs.Common.{◌≡◌, ◌∙◌, ℕ, List, Option, Bool, false, Some, inl, sym, subst}
+use Rattle.std.specs.Prelude.{◌⊎◌}
+use Rattle.sig_init.specs.Files.{Held, KeepsBut, StaysTold}
+use Rattle.sig_outside.proofs.CauseLemmas.{raised_rose}
+use Rattle.sig_outside.specs.Causes.{Rose}
+use Rattle.sig_opening.specs.Files.{LackOne}
+use Rattle.sig_opening.proofs.DoorLemmas.{has_door, risen_more}
+use Rattle.sig_opening.proofs.EndLemmas.{not_failed, not_refused}
+use Rattle.sig_opening.proofs.ServingLemmas.{around_same, at_same, ends_around, no_run}
+use Rattle.sig_receive.specs.Ends.{IsDamaged}
+use Rattle.sig_receive.proofs.ServingLemmas.{serves_around}
 use Rattle.sig_receive.proofs.serving.serve_store.Goals as goal
 
+-- ---- where the door was opened
+
 pub returns-in-Ok-clause-settings_failed : goal.returns-in-Ok-clause-settings_failed
-returns-in-Ok-clause-settings_failed g c = λ is. subst IsEndOfWatches is (ends_watches g.X.D.Disk.told _ _ _ _ _ _ _ c.serve_at-node.ensures.serves)
+returns-in-Ok-clause-settings_failed g c = λ is. not_failed _ _ _ c.serve_at-end.ensures.serves is
 
 pub returns-in-Ok-clause-refused : goal.returns-in-Ok-clause-refused
-returns-in-Ok-clause-refused g c = λ member is. subst IsEndOfWatches is (ends_watches g.X.D.Disk.told _ _ _ _ _ _ _ c.serve_at-node.ensures.serves)
-
-pub returns-in-Ok-clause-damaged : goal.returns-in-Ok-clause-damaged
-returns-in-Ok-clause-damaged g c = λ file at is. absurd (subst IsEndOfWatches is (ends_watches g.X.D.Disk.told _ _ _ _ _ _ _ c.serve_at-node.ensures.serves))
+returns-in-Ok-clause-refused g c = λ member is. not_refused _ member _ _ c.serve_at-end.ensures.serves is
 
 pub returns-in-Ok-clause-no_store : goal.returns-in-Ok-clause-no_store
-returns-in-Ok-clause-no_store g c = λ is. absurd (subst IsEndOfWatches is (ends_watches g.X.D.Disk.told _ _ _ _ _ _ _ c.serve_at-node.ensures.serves))
-
-pub returns-in-Ok-clause-missing : goal.returns-in-Ok-clause-missing
-returns-in-Ok-clause-missing g c = λ lacks. absurd (not_missing _ _ c.in-Ok.ensures.found lacks)
+returns-in-Ok-clause-no_store g c = λ is.
+    subst (λ (t : List ℕ → Option Bool). LackOne (t c.args.names.now.a) (t c.args.names.now.b)) c.in-Ok.ensures.stores.3 (c.serve_at-end.ensures.no_store is)
 
 pub returns-in-Ok-clause-store_failed : goal.returns-in-Ok-clause-store_failed
 returns-in-Ok-clause-store_failed g c = λ is.
-    later_rose _ _ _ c.in-Ok.ensures.later
-    (later_rose _ _ _ (omega (arith, c.serve_at-node.ensures.stores.2)) (c.give_back.ensures.counted (broken_where _ _ is c.serve_at-node.ensures.breaks)))
+    subst (λ (n : ℕ). Rose n (g.X.Outside.store_faults c.back_door.new.self)) c.in-Ok.ensures.stores.2
+    (subst (λ (n : ℕ). Rose (g.X.Outside.store_faults c.door.new.self) n) (sym c.back_door.ensures.stores.2) (c.serve_at-end.ensures.store_failed is))
+
+pub returns-in-Ok-clause-damaged : goal.returns-in-Ok-clause-damaged
+returns-in-Ok-clause-damaged g c = λ file at is.
+    subst (λ (h : Held). IsDamaged (h c.args.names.now.a) (h c.args.names.now.b) file at) c.in-Ok.ensures.stores.0 (c.serve_at-end.ensures.damaged file at is)
+
+pub returns-in-Ok-clause-network_failed : goal.returns-in-Ok-clause-network_failed
+returns-in-Ok-clause-network_failed g c = λ is.
+    risen_more _ _ _ _ (c.serve_at-end.ensures.network ∙ c.in-Ok.ensures.cause.stays) (c.serve_at-end.ensures.network_failed is) c.back_door.ensures.faults
 
 pub returns-in-Ok-clause-serves : goal.returns-in-Ok-clause-serves
 returns-in-Ok-clause-serves g c =
-    let before = c.in-Ok.ensures.doors in
-    let after = c.give_back.ensures.doors in
-    serves_store g.X.D.Disk.told g.X.D.Disk.seen c.args.said _ _ _ _ _ _ _ _ _ _ c.in-Ok.ensures.opens
-    (by_doors g.X.D.Disk.told _ _ _ _ _ _ _ _ _ (doors_same _ _ _ _ before.0 before.2) (doors_same _ _ _ _ (sym after.0) (sym after.2)) c.serve_at-node.ensures.serves)
-    c.serve_at-node.ensures.breaks c.give_back.ensures.tells c.give_back.ensures.a c.give_back.ensures.b
+    let X = g.X.Outside in
+    let first = g.X.A.Door.view c.in-Ok.door in
+    let last = g.X.A.Door.view c.serve_at-end.new.door in
+    let kept = c.serve_at-end.ensures.doors in
+    let door = has_door c.args.said.listen _ _ _ _ _ _ _ _ _ _ _ _ first last c.in-Ok.ensures.place c.in-Ok.ensures.next c.in-Ok.ensures.begins c.in-Ok.ensures.whole
+    c.in-Ok.ensures.back c.in-Ok.ensures.lends kept.0 kept.1 kept.2 c.back_door.ensures.doors c.back_door.ensures.back in
+    serves_around c.args.said c.serve_at-end.result c.args.watches _ _ first last _ _ door
+    (at_same X.held c.args.names.now.a c.args.names.now.b c.door.new.self c.args.outside.now first c.in-Ok.ensures.stores.0)
+    (at_same X.held c.args.names.now.a c.args.names.now.b c.serve_at-end.new.outside c.back_door.new.self last (sym c.back_door.ensures.stores.0))
+    c.serve_at-end.ensures.serves
+
+pub returns-in-Ok-clause-missing : goal.returns-in-Ok-clause-missing
+returns-in-Ok-clause-missing g c = λ lacks.
+    let X = g.X.Outside in
+    let first = g.X.A.Door.view c.in-Ok.door in
+    let last = g.X.A.Door.view c.serve_at-end.new.door in
+    let kept = c.serve_at-end.ensures.doors in
+    let door = has_door c.args.said.listen _ _ _ _ _ _ _ _ _ _ _ _ first last c.in-Ok.ensures.place c.in-Ok.ensures.next c.in-Ok.ensures.begins c.in-Ok.ensures.whole
+    c.in-Ok.ensures.back c.in-Ok.ensures.lends kept.0 kept.1 kept.2 c.back_door.ensures.doors c.back_door.ensures.back in
+    ends_around c.args.said.listen c.serve_at-end.result _ _ first last _ _ ⊥ ⊥ door
+    (at_same X.held c.args.names.now.a c.args.names.now.b c.door.new.self c.args.outside.now first c.in-Ok.ensures.stores.0)
+    (at_same X.held c.args.names.now.a c.args.names.now.b c.serve_at-end.new.outside c.back_door.new.self last (sym c.back_door.ensures.stores.0))
+    (λ run. run)
+    (c.serve_at-end.ensures.missing (subst (λ (t : List ℕ → Option Bool). (t c.args.names.now.a ≡ Some false) ⊎ (t c.args.names.now.b ≡ Some false)) (sym c.in-Ok.ensures.stores.3) lacks))
 
 pub returns-in-Ok-clause-back : goal.returns-in-Ok-clause-back
 returns-in-Ok-clause-back g c =
-    stays_told _ _ c.args.said _ _ _ _ _ _ _ _ _ _ c.in-Ok.ensures.opens c.serve_at-node.ensures.serves c.give_back.ensures.a c.give_back.ensures.b
+    let a = c.args.names.now.a in
+    let b = c.args.names.now.b in
+    let X = g.X.Outside in
+    subst (λ (h : Held). StaysTold h (X.held c.back_door.new.self) a × StaysTold h (X.held c.back_door.new.self) b) c.in-Ok.ensures.stores.0
+    (subst (λ (h : Held). StaysTold (X.held c.door.new.self) h a × StaysTold (X.held c.door.new.self) h b) (sym c.back_door.ensures.stores.0) c.serve_at-end.ensures.back)
 
-pub returns-clause-settings_failed : goal.returns-clause-settings_failed
-returns-clause-settings_failed g c = λ is. load_other c.in-Err.cause SettingsFailed (λ k. k) (sym c.of_unopened.ensures ∙ is)
+pub returns-in-Ok-clause-others : goal.returns-in-Ok-clause-others
+returns-in-Ok-clause-others g c =
+    let a = c.args.names.now.a in
+    let b = c.args.names.now.b in
+    let X = g.X.Outside in
+    subst (λ (h : Held). KeepsBut a b h (X.held c.back_door.new.self)) c.in-Ok.ensures.stores.0
+    (subst (λ (h : Held). KeepsBut a b (X.held c.door.new.self) h) (sym c.back_door.ensures.stores.0) c.serve_at-end.ensures.others)
 
-pub returns-clause-refused : goal.returns-clause-refused
-returns-clause-refused g c = λ member is. load_other c.in-Err.cause (Refused member) (λ k. k) (sym c.of_unopened.ensures ∙ is)
+-- ---- where it wasn't
 
-pub returns-clause-store_failed : goal.returns-clause-store_failed
-returns-clause-store_failed g c = λ is. load_failed state_of c.in-Err.cause _ _ _ _ _ c.in-Err.ensures.halts (sym c.of_unopened.ensures ∙ is)
+pub returns-in-Err-clause-network_failed : goal.returns-in-Err-clause-network_failed
+returns-in-Err-clause-network_failed g c = λ is. raised_rose _ _ c.in-Err.ensures.cause.failed
 
-pub returns-clause-no_store : goal.returns-clause-no_store
-returns-clause-no_store g c = λ is. load_missing state_of c.in-Err.cause _ _ _ _ _ c.in-Err.ensures.halts (sym c.of_unopened.ensures ∙ is)
+pub returns-in-Err-clause-serves : goal.returns-in-Err-clause-serves
+returns-in-Err-clause-serves g c =
+    let X = g.X.Outside in
+    inl (no_run _ _ (around_same X.held X.doors X.doors_back _ _ c.door.new.self c.args.outside.now c.in-Err.ensures.stores.0 c.in-Err.ensures.none.0 c.in-Err.ensures.back))
 
-pub returns-clause-missing : goal.returns-clause-missing
-returns-clause-missing g c = λ lacks. (
-  load_early c.in-Err.cause _ c.of_unopened.ensures,
-  record { files = c.in-Err.ensures.back; doors = doors_same _ _ _ _ c.in-Err.ensures.doors.0 c.in-Err.ensures.doors.2 },
-)
+pub returns-in-Err-clause-missing : goal.returns-in-Err-clause-missing
+returns-in-Err-clause-missing g c = λ lacks.
+    let X = g.X.Outside in
+    inl (no_run _ _ (around_same X.held X.doors X.doors_back _ _ c.door.new.self c.args.outside.now c.in-Err.ensures.stores.0 c.in-Err.ensures.none.0 c.in-Err.ensures.back))
 
-pub returns-clause-damaged : goal.returns-clause-damaged
-returns-clause-damaged g c = λ file at is. load_damaged state_of c.in-Err.cause _ _ _ _ _ c.in-Err.ensures.halts file at (sym c.of_unopened.ensures ∙ is)
-
-pub returns-clause-network_failed : goal.returns-clause-network_failed
-returns-clause-network_failed g c = λ is. absurd (load_other c.in-Err.cause NetworkFailed (λ k. k) (sym c.of_unopened.ensures ∙ is))
-
-pub returns-clause-serves : goal.returns-clause-serves
-returns-clause-serves g c =
-    load_ends c.in-Err.cause _ _ _ c.of_unopened.ensures (record { files = c.in-Err.ensures.back; doors = doors_same _ _ _ _ c.in-Err.ensures.doors.0 c.in-Err.ensures.doors.2 })
-
-pub returns-clause-back : goal.returns-clause-back
-returns-clause-back g c = (same_told _ _ c.in-Err.ensures.back.0, same_told _ _ c.in-Err.ensures.back.1)
+pub returns-in-Err-clause-back : goal.returns-in-Err-clause-back
+returns-in-Err-clause-back g c =
+    let a = c.args.names.now.a in
+    let b = c.args.names.now.b in
+    let X = g.X.Outside in
+    subst (λ (h : Held). StaysTold (X.held c.args.outside.now) h a × StaysTold (X.held c.args.outside.now) h b) (sym c.in-Err.ensures.stores.0) (λ some. some, λ some. some)

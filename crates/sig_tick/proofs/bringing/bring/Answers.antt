@@ -19,7 +19,7 @@ returns-in_err-last_ended-in-Ok-clause-brought g c =
 pub returns-in-Err-clause-brought : goal.returns-in-Err-clause-brought
 returns-in-Err-clause-brought g c =
     let h : c.loop-token.token-index < length c.args.tokens.now = omega arith in
-    rw c.end_by.ensures (brings_stopped c.args.rules.now _ _ _ _ c.args.tokens.now c.loop-token.token-index c.token-item.result _ _ _ _ _ _ _ _ _ c.in-Err.fault
+    rw c.end_by.ensures (rw c.note_late.ensures (brings_stopped c.args.rules.now _ _ _ _ c.args.tokens.now c.loop-token.token-index c.token-item.result _ _ _ _ _ _ _ _ _ c.in-Err.fault
     (record {
       below = h;
       is = c.token-item.is;
@@ -27,7 +27,7 @@ returns-in-Err-clause-brought g c =
       time_same = c.loop-token.invariant.now;
       on = c.loop-token.invariant.goes_on;
       delivered = c.in-Err.ensures.delivered;
-    }))
+    })))
 
 pub loop-token-preserved : goal.loop-token-preserved
 loop-token-preserved g c =
@@ -49,4 +49,4 @@ loop-token-preserved g c =
 pub returns-clause-brought : goal.returns-clause-brought
 returns-clause-brought g c =
     let h : length c.args.tokens.now ≤ c.loop-token.token-index = omega arith in
-    brings_to_the_end c.args.rules.now _ c.args.tokens.now c.loop-token.token-index _ _ _ _ _ _ _ h c.loop-token.invariant.goes_on
+    rw c.note_late-2.ensures (brings_to_the_end c.args.rules.now _ c.args.tokens.now c.loop-token.token-index _ _ _ _ _ _ _ h c.loop-token.invariant.goes_on)

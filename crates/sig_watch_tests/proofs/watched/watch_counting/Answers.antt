@@ -1,8 +1,8 @@
 use denote.Param.{param}
 use denote.Param.Send.{param_send}
 use Rattle.sig_rxnode.proofs.Crossing.{inside_send}
-use Rattle.sig_watch_tests.proofs.watched.watch_receiver.Lts.{arg-0-4}
-use Rattle.sig_watch_tests.proofs.watched.watch_receiver.Goals as goal
+use Rattle.sig_watch_tests.proofs.watched.watch_counting.Lts.{arg-0-4}
+use Rattle.sig_watch_tests.proofs.watched.watch_counting.Goals as goal
 
 -- a node moves between threads, by its fields
 pub serve_watch-requires-send-E-Node : goal.serve_watch-requires-send-E-Node

@@ -1,0 +1,3 @@
+pub mod Bearers
+pub mod Receivers
+pub mod Transmitters

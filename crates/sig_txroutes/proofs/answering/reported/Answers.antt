@@ -1,0 +1,7 @@
+use Rattle.std.proofs.Common.{◌≡◌, ◌∙◌, ap}
+use Rattle.serde_json.specs.Written.{has_float}
+use Rattle.sig_txroutes.proofs.WholeDocuments.{refused_whole}
+use Rattle.sig_txroutes.proofs.answering.reported.Goals as goal
+
+pub telling-requires : goal.telling-requires
+telling-requires c = ap has_float c.in_ok-value.ensures ∙ refused_whole c.args.next c.args.tokens.now
