@@ -55,6 +55,13 @@ impl Dispatch {
         self.wanted && !self.listing
     }
 
+    /// The schedule of the attempts that were noted.
+    pub fn schedule(&self) -> &Schedule
+        ensures { result.now ≡ self.now.schedule }
+    {
+        &self.schedule
+    }
+
     /// Whether a stream is due by the log of attempts at this time, in seconds since 1970. Else it is late, and waits.
     pub fn is_due(&self, stream: &Text, now: u64) -> bool
         ensures { (log : List Attempt) → IsLogged self.now.schedule log → result ≡ nat_le (due log stream.now) now }

@@ -20,5 +20,6 @@ mod threads;
 mod token;
 
 pub use coding::{decode, encode};
+pub use news::SubjectField;
 pub use sig_fields::DecodeFault;
 pub use token::{decode_token, encode_token};

@@ -4,7 +4,7 @@ use Rattle.std.specs.Prelude.{◌⊎◌, is_some, unwrap_or}
 use Rattle.sig_outside.specs.Causes.{Rose}
 use Rattle.sig_journal.specs.declared.fault.LoadFault.{LoadFault}
 use Rattle.sig_settings.specs.declared.fault.SettingsFault.{SettingsFault}
-use Rattle.sig_opening.specs.Ends.{BreaksAfter, ByEnd, IsEndBefore, IsEndOfWatches, of_unopened, of_unread}
+use Rattle.sig_opening.specs.Ends.{BreaksAfter, ByEnd, IsEndOfWatches, of_unopened, of_unread}
 use Rattle.sig_opening.specs.Files.{AreThere, HaltsOpening, IsDamaged, IsThere}
 use Rattle.sig_opening.specs.Settings.{AreRefused, HaltsSettings}
 use Rattle.sig_opening.specs.declared.ending.ServeEnd.{ServeEnd}
@@ -48,13 +48,18 @@ unread_before unread.Memory = tt
 pub unread_other : (cause : Unread) (end : ServeEnd) → (IsBefore end → ⊥) → of_unread cause ≡ end → ⊥
 unread_other cause end not is = not (subst IsBefore is (unread_before cause))
 
-unread_none : (cause : Unread) (none run : Type 0) → none → ByEnd (of_unread cause) none run
-unread_none unread.Failed none run h = h
-unread_none (unread.Refused member) none run h = h
-unread_none unread.Memory none run h = inl h
+unread_none : (cause : Unread) (none idle run : Type 0) → none → ByEnd (of_unread cause) none idle run
+unread_none unread.Failed none idle run h = h
+unread_none (unread.Refused member) none idle run h = h
+unread_none unread.Memory none idle run h = inl h
 
-pub unread_ends : (cause : Unread) (end : ServeEnd) (none run : Type 0) → end ≡ of_unread cause → none → ByEnd end none run
-unread_ends cause end none run is h = subst (λ (e : ServeEnd). ByEnd e none run) (sym is) (unread_none cause none run h)
+pub unread_ends : (cause : Unread) (end : ServeEnd) (none idle run : Type 0) → end ≡ of_unread cause → none → ByEnd end none idle run
+unread_ends cause end none idle run is h = subst (λ (e : ServeEnd). ByEnd e none idle run) (sym is) (unread_none cause none idle run h)
+
+-- ---- where no door was opened
+
+pub shut_ends : (end : ServeEnd) (none idle run : Type 0) → end ≡ NetworkFailed → none → ByEnd end none idle run
+shut_ends end none idle run is h = subst (λ (e : ServeEnd). ByEnd e none idle run) (sym is) (inl h)
 
 -- ---- where no node was loaded
 
@@ -103,32 +108,14 @@ load_of_store unopened.Memory = tt
 pub load_other : (cause : Unopened) (end : ServeEnd) → (IsOfStore end → ⊥) → of_unopened cause ≡ end → ⊥
 load_other cause end not is = not (subst IsOfStore is (load_of_store cause))
 
-load_none : (cause : Unopened) (none run : Type 0) → none → ByEnd (of_unopened cause) none run
-load_none unopened.Missing none run h = h
-load_none unopened.Failed none run h = inl h
-load_none (unopened.Damaged file at) none run h = h
-load_none unopened.Memory none run h = inl h
+load_idle : (cause : Unopened) (none idle run : Type 0) → idle → ByEnd (of_unopened cause) none idle run
+load_idle unopened.Missing none idle run h = h
+load_idle unopened.Failed none idle run h = inl h
+load_idle (unopened.Damaged file at) none idle run h = h
+load_idle unopened.Memory none idle run h = inr (inl h)
 
-pub load_ends : (cause : Unopened) (end : ServeEnd) (none run : Type 0) → end ≡ of_unopened cause → none → ByEnd end none run
-load_ends cause end none run is h = subst (λ (e : ServeEnd). ByEnd e none run) (sym is) (load_none cause none run h)
-
--- a run that came to no watch, where no settings were read or no node was loaded
-unread_came : (cause : Unread) → IsEndBefore (of_unread cause)
-unread_came unread.Failed = tt
-unread_came (unread.Refused member) = tt
-unread_came unread.Memory = tt
-
-pub unread_early : (cause : Unread) (end : ServeEnd) → end ≡ of_unread cause → IsEndBefore end
-unread_early cause end is = subst IsEndBefore (sym is) (unread_came cause)
-
-load_came : (cause : Unopened) → IsEndBefore (of_unopened cause)
-load_came unopened.Missing = tt
-load_came unopened.Failed = tt
-load_came (unopened.Damaged file at) = tt
-load_came unopened.Memory = tt
-
-pub load_early : (cause : Unopened) (end : ServeEnd) → end ≡ of_unopened cause → IsEndBefore end
-load_early cause end is = subst IsEndBefore (sym is) (load_came cause)
+pub load_ends : (cause : Unopened) (end : ServeEnd) (none idle run : Type 0) → end ≡ of_unopened cause → idle → ByEnd end none idle run
+load_ends cause end none idle run is h = subst (λ (e : ServeEnd). ByEnd e none idle run) (sym is) (load_idle cause none idle run h)
 
 one_there : (told : Option Bool) → IsThere told → told ≡ Some false → ⊥
 one_there None there missing = cc missing
@@ -148,28 +135,39 @@ broken_where end b is h = subst (λ (e : ServeEnd). BreaksAfter e b) is h
 pub not_of_watches : (end end' : ServeEnd) → IsEndOfWatches end → (IsEndOfWatches end' → ⊥) → end ≡ end' → ⊥
 not_of_watches end end' kind not is = not (subst IsEndOfWatches is kind)
 
-pub run_end : (end : ServeEnd) (none run : Type 0) → IsEndOfWatches end → run → ByEnd end none run
-run_end Done none run kind h = h
-run_end SettingsFailed none run kind h = absurd kind
-run_end (Refused member) none run kind h = absurd kind
-run_end NoStore none run kind h = absurd kind
-run_end StoreFailed none run kind h = inr h
-run_end (Damaged file at) none run kind h = absurd kind
-run_end NetworkFailed none run kind h = inr h
-run_end (Disagree differ) none run kind h = h
-run_end Memory none run kind h = inr h
+pub run_end : (end : ServeEnd) (none idle run : Type 0) → IsEndOfWatches end → run → ByEnd end none idle run
+run_end Done none idle run kind h = h
+run_end SettingsFailed none idle run kind h = absurd kind
+run_end (Refused member) none idle run kind h = absurd kind
+run_end NoStore none idle run kind h = absurd kind
+run_end StoreFailed none idle run kind h = inr h
+run_end (Damaged file at) none idle run kind h = absurd kind
+run_end NetworkFailed none idle run kind h = inr h
+run_end (Disagree differ) none idle run kind h = h
+run_end Memory none idle run kind h = inr (inr h)
 
--- what a run is may be said more fully
-pub by_end : (end : ServeEnd) (none run run' : Type 0) → (run → run') → ByEnd end none run → ByEnd end none run'
-by_end Done none run run' f h = f h
-by_end SettingsFailed none run run' f h = h
-by_end (Refused member) none run run' f h = h
-by_end NoStore none run run' f h = h
-by_end StoreFailed none run run' f (inl h) = inl h
-by_end StoreFailed none run run' f (inr h) = inr (f h)
-by_end (Damaged file at) none run run' f h = h
-by_end NetworkFailed none run run' f (inl h) = inl h
-by_end NetworkFailed none run run' f (inr h) = inr (f h)
-by_end (Disagree differ) none run run' f h = f h
-by_end Memory none run run' f (inl h) = inl h
-by_end Memory none run run' f (inr h) = inr (f h)
+-- what it came to may be said in other words
+pub by_end : (end : ServeEnd) (none idle run none' idle' run' : Type 0) → (none → none') → (idle → idle') → (run → run')
+    → ByEnd end none idle run → ByEnd end none' idle' run'
+by_end Done none idle run none' idle' run' f g k h = k h
+by_end SettingsFailed none idle run none' idle' run' f g k h = f h
+by_end (Refused member) none idle run none' idle' run' f g k h = f h
+by_end NoStore none idle run none' idle' run' f g k h = g h
+by_end StoreFailed none idle run none' idle' run' f g k (inl h) = inl (g h)
+by_end StoreFailed none idle run none' idle' run' f g k (inr h) = inr (k h)
+by_end (Damaged file at) none idle run none' idle' run' f g k h = g h
+by_end NetworkFailed none idle run none' idle' run' f g k (inl h) = inl (f h)
+by_end NetworkFailed none idle run none' idle' run' f g k (inr h) = inr (k h)
+by_end (Disagree differ) none idle run none' idle' run' f g k h = k h
+by_end Memory none idle run none' idle' run' f g k (inl h) = inl (f h)
+by_end Memory none idle run none' idle' run' f g k (inr (inl h)) = inr (inl (g h))
+by_end Memory none idle run none' idle' run' f g k (inr (inr h)) = inr (inr (k h))
+
+-- ---- at a door that was opened
+
+-- it ended by no settings
+pub not_failed : (end : ServeEnd) (idle run : Type 0) → ByEnd end ⊥ idle run → end ≡ SettingsFailed → ⊥
+not_failed end idle run h is = subst (λ (e : ServeEnd). ByEnd e ⊥ idle run) is h
+
+pub not_refused : (end : ServeEnd) (member : List ℕ) (idle run : Type 0) → ByEnd end ⊥ idle run → end ≡ Refused member → ⊥
+not_refused end member idle run h is = subst (λ (e : ServeEnd). ByEnd e ⊥ idle run) is h

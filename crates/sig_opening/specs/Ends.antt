@@ -45,17 +45,17 @@ IsEndOfWatches NetworkFailed = Unit {0}
 IsEndOfWatches (Disagree differ) = Unit {0}
 IsEndOfWatches Memory = Unit {0}
 
--- an end before the first watch, or after
-abbrev pub ByEnd : ServeEnd → Type 0 → Type 0 → Type 0
-ByEnd Done none run = run
-ByEnd SettingsFailed none run = none
-ByEnd (Refused member) none run = none
-ByEnd NoStore none run = none
-ByEnd StoreFailed none run = none ⊎ run
-ByEnd (Damaged file at) none run = none
-ByEnd NetworkFailed none run = none ⊎ run
-ByEnd (Disagree differ) none run = run
-ByEnd Memory none run = none ⊎ run
+-- an end before a door was opened; with a door but before the first watch; or after watches
+abbrev pub ByEnd : ServeEnd → Type 0 → Type 0 → Type 0 → Type 0
+ByEnd Done none idle run = run
+ByEnd SettingsFailed none idle run = none
+ByEnd (Refused member) none idle run = none
+ByEnd NoStore none idle run = idle
+ByEnd StoreFailed none idle run = idle ⊎ run
+ByEnd (Damaged file at) none idle run = idle
+ByEnd NetworkFailed none idle run = none ⊎ run
+ByEnd (Disagree differ) none idle run = run
+ByEnd Memory none idle run = none ⊎ idle ⊎ run
 
 -- whether a node may be broken after a run that ends so: where a store failed, or where something differs
 abbrev pub fails_by : ServeEnd → Bool
@@ -78,15 +78,3 @@ abbrev pub BreaksAfter : ServeEnd → Option ℕ → Type 0
 BreaksAfter (Disagree differ) broken_at = Unit {0}
 BreaksAfter StoreFailed broken_at = BreaksBy true broken_at
 BreaksAfter _ broken_at = BreaksBy false broken_at
-
--- a run that came to no watch can end so
-abbrev pub IsEndBefore : ServeEnd → Type 0
-IsEndBefore Done = ⊥
-IsEndBefore SettingsFailed = Unit {0}
-IsEndBefore (Refused member) = Unit {0}
-IsEndBefore NoStore = Unit {0}
-IsEndBefore StoreFailed = Unit {0}
-IsEndBefore (Damaged file at) = Unit {0}
-IsEndBefore NetworkFailed = ⊥
-IsEndBefore (Disagree differ) = ⊥
-IsEndBefore Memory = Unit {0}

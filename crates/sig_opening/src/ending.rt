@@ -11,19 +11,22 @@ use sig_notes::EndCause;
 pub enum ServeEnd {
     /// As many watches ran as were asked for, or a watch reports that its door is shut.
     Done,
-    /// The settings couldn't be opened, or reading them failed. The outside counted it as a fault of the settings.
+    /// The settings couldn't be opened, or reading them failed, so that no door was opened. The outside counted it as a fault
+    /// of the settings.
     SettingsFailed,
     /// What is at this path of the settings is missing or wrong; it is `length` where there are too many bytes, and `body`
-    /// where they spell no JSON object. No file of the store was opened.
+    /// where they spell no JSON object. No door was opened, and no file of the store.
     Refused(Text),
-    /// A file of the store isn't there. None was made, and the door wasn't opened.
+    /// A file of the store isn't there. None was made, and the door, which was open, was given back with no watch.
     NoStore,
-    /// A file of the store couldn't be opened, or its disk failed. The outside counted it as a fault of the stores.
+    /// A file of the store couldn't be opened, or its disk failed, as the store was loaded or in a watch. The outside counted it
+    /// as a fault of the stores.
     StoreFailed,
     /// The bytes of a file of the store, 0 for the first and 1 for the second, are no journal at this offset, or the record
-    /// whose gate stands there is none that the node takes up. The door wasn't opened.
+    /// whose gate stands there is none that the node takes up. The door, which was open, was given back with no watch.
     Damaged { file: u8, at: u64 },
-    /// The door couldn't be opened, or it failed. The outside counted it as a fault of the network.
+    /// The door couldn't be opened, and then no file of the store was, or it failed in a watch. The outside counted it as a
+    /// fault of the network.
     NetworkFailed,
     /// In the last watch these two values differ, which should be equal: a turn of a link's log and the node's. The node may be
     /// broken too.

@@ -10,9 +10,9 @@
 //! loaded, and on `sig_watch` for what is served. What is loaded, be it a transmitter or a receiver, is an instance of
 //! `Stored`, which says what its store stands for. Promised: bytes that are told are read whole up to their limit; where
 //! nothing was read or opened, the outside counted a fault of that kind, a file of the store isn't there, or memory ran out; no
-//! file is made; the node that is loaded stands
-//! for what its files told; and what was opened is given back on every path. Left out: what settings say, and the door, which
-//! each server has of its own; `specs/` has what both say of their watches.
+//! file is made; the node that is loaded stands for what its files told; and what was opened is given back on every path. Left
+//! out: what settings say, and the door, which each server opens by itself before its store; `specs/` has what both say of the
+//! door and of their watches.
 #![tactic(auto)]
 
 mod ending;
