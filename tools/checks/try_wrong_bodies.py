@@ -130,11 +130,11 @@ class Function:
         return self.owner == (block_around(rows, at) if rows[at].startswith(" ") else "")
 
     def may_repeat(self, rows):
-        """Whether a copy of it may stand beside it: no method of a trait, nothing that calls itself, and no closure."""
+        """Whether a copy of it may stand beside it: no method of a trait, and nothing that calls itself."""
         first, at, last = self.rows_in(rows)
         inside = "\n".join(rows[at + 1 : last])
         is_own = bool(re.search(rf"\b{self.name}\(", inside)) or "#[cycle" in "".join(rows[first:at])
-        return not self.of()[1] and self.name not in KEPT_BODIES and not is_own and not re.search(r"[(=,]\s*(move )?\|", inside)
+        return not self.of()[1] and self.name not in KEPT_BODIES and not is_own
 
     def of(self):
         """The words that name the type and the trait of the block around it, empty ones where there is none."""
@@ -522,6 +522,9 @@ def main(words):
         os.chdir(ROOT)
     used = resource.getrusage(resource.RUSAGE_CHILDREN)
     failed, old, weak = (sum(it) for it in zip(*((not row[1], row[3], ONLY_NAMES in row[2]) for row in rows), (0, 0, 0)))
+    for label, is_well, said, _ in rows:
+        if not is_well:
+            print(f"{label}: NOT REFUSED: {said}")
     for it in lacking:
         print(f"{it}: NOT TRIED: it, or a library below it, isn't proved as it stands: run rt ci first")
     print(f"wrong bodies: {len(rows) - failed} refused, {old} of them by an earlier run and {weak} {ONLY_NAMES}; {failed} not refused; {(used.ru_utime + used.ru_stime) / 60:.1f} processor minutes")

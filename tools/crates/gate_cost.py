@@ -1,7 +1,7 @@
 #!/usr/bin/env python3
 """What the gate costs, in processor time, from the file that `.ci/run` names at its end.
 
-    python3 -B tools/crates/gate_cost.py kinds FILE    the minutes of each kind
+    python3 -B tools/crates/gate_cost.py kinds FILE    the minutes of each kind, and the crates that cost most
     python3 -B tools/crates/gate_cost.py table FILE    the tables of CONTRIBUTING.md
     python3 -B tools/crates/gate_cost.py write FILE    puts them there
 
@@ -20,6 +20,7 @@ from crates.crate_list import TOP, crates
 KINDS = {"proofs": "proofs", "tests": "tests", "bodies": "wrong bodies", "programs": "programs", "scripts": "scripts"}
 OF_CRATES = ("proofs", "tests", "bodies")
 SHOWN = 15
+TOLD = 25
 PLACE = re.compile(r"(<!-- tools/crates/gate_cost.py -->\n).*?(<!-- end -->\n)", re.S)
 
 
@@ -48,6 +49,10 @@ def tell_kinds(costs, path):
     total = by_kind(costs)
     said = ", ".join(f"{word} {minutes(total[kind])}" for kind, word in KINDS.items())
     print(f"gate: processor minutes: {said}; together {minutes(sum(total.values()))}\ngate: by crate and kind in {path}")
+    for kind in OF_CRATES:
+        spent = {name: seconds for (it, name), seconds in costs.items() if it == kind}
+        dearest = sorted(spent, key=lambda it: -spent[it])[:TOLD]
+        print(f"gate: {KINDS[kind]}: {', '.join(f'{it} {minutes(spent[it])}' for it in dearest)}")
 
 
 def longest_chain(costs):
