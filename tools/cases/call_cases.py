@@ -127,6 +127,14 @@ def listed(behind, *streams):
     return "standings " + text({"next": behind, "streams": list(streams)})
 
 
+def refusal(stream, place, publication=None, code=None, at=0):
+    return {"code": code, "id": publication and name_of(publication), "number": place, "stream": stream, "time": at}
+
+
+def refused(behind, *tokens):
+    return "refused " + text({"next": behind, "tokens": list(tokens)})
+
+
 def figures(publications, *streams):
     return "figures " + text({"publications": publications, "streams": list(streams)})
 
@@ -581,6 +589,45 @@ OVERSEEN = [
     *[("", publish(place), published(("acme-1", place))) for place in range(1, 8)],
 ]
 
+# What the operator reads of tokens that were reported as faulty.
+MANY = [refusal("acme-1", place, place, "c", 1700000000 + place) for place in range(1, 103)]
+REPORTED = [
+    *anew("Where nothing was reported, nothing is told, from whichever place"),
+    ("", call("refused", **{"from": 0}), refused(0)),
+    ("", call("refused", **{"from": 2**62}), refused(0)),
+    ("", create(), made("acme-1")),
+    ("", create("zeta", delivery=by_push()), made("zeta-1", delivery=pushed())),
+    ("", publish(1, at=1700000000), published(("acme-1", 1), ("zeta-1", 1))),
+    ("", publish(2, at=1700000001), published(("acme-1", 2), ("zeta-1", 2))),
+    ("", call("verify", "acme-1", at=1700000002), asked("acme-1", 3)),
+    ("", operate("operator_status", "acme-1", status="paused", at=1700000003), state("acme-1", "paused", None, 4)),
+    ("RFC 8936, section 2.4.4: a token that is reported is told with its publication, its code and its own time", poll("acme-1", [], [(("acme-1", 2), "invalid_audience")], 0), sets(more=True)),
+    ("", call("refused", **{"from": 0}), refused(1, refusal("acme-1", 2, 2, "invalid_audience", 1700000001))),
+    ("An acknowledged one isn't, one that is kept isn't, and a code that is empty is told", poll("acme-1", [("acme-1", 1)], [(("acme-1", 1), "x"), (("acme-1", 3), ""), (("acme-1", 4), "access_denied")], 0), sets(more=True)),
+    ("A verification is of no publication, nor is what tells of a status", call("refused", **{"from": 1}), refused(2, refusal("acme-1", 3, None, "", 1700000002))),
+    ("", poll("acme-1", [], [(("acme-1", 4), "y"), (("acme-1", 4), "z"), (("acme-1", 2), "again")]), sets()),
+    ("RFC 8935, section 2.3: a push that is answered so is told too; a code of more than 64 bytes isn't kept", settle("zeta-1", 2, "reported", code="c" * 65), "settled 1"),
+    ("", settle("zeta-1", 1, "reported", code="é" * 32), "settled 1"),
+    ("", settle("zeta-1", 1, "reported", code="x"), "settled 0"),
+    ("in the order in which they were reported", call("refused", **{"from": 2}), refused(5, refusal("acme-1", 4, None, "y", 1700000003), refusal("zeta-1", 2, 2, None, 1700000001), refusal("zeta-1", 1, 1, "é" * 32, 1700000000))),
+    ("and their stream's deletion leaves them", operate("operator_delete", "zeta-1"), "gone"),
+    ("", call("delete", "acme-1"), "gone"),
+    ("", call("refused", **{"from": 3}), refused(5, refusal("zeta-1", 2, 2, None, 1700000001), refusal("zeta-1", 1, 1, "é" * 32, 1700000000))),
+    *[("", call("refused", **{"from": place}), refused(5)) for place in [5, 6, 2**62]],
+    *anew("A page has at most 100 of them"),
+    ("", create(), made("acme-1")),
+    *[row for place in range(1, 103) for row in [
+        ("", publish(place, at=1700000000 + place), published(("acme-1", place))),
+        ("", settle("acme-1", place, "reported", code="c"), "settled 1"),
+    ]],
+    ("", call("refused", **{"from": 0}), refused(100, *MANY[:100])),
+    ("", call("refused", **{"from": 1}), refused(101, *MANY[1:101])),
+    ("", call("refused", **{"from": 100}), refused(102, *MANY[100:])),
+    *anew("Back to the streams of the cases above"),
+    ("", create(), made("acme-1")),
+    *[("", publish(place), published(("acme-1", place))) for place in range(1, 8)],
+]
+
 FORMS = [
     *each("What spells no call changes nothing. The object names a call, and has its parts", str, [
         "call ", "call {", "call []", "call null", 'call "metadata"', "call {}", call("Metadata"), call(""), call("commit"), "call " + text({"call": 7}), call("metadata", at=-1),
@@ -592,7 +639,7 @@ FORMS = [
         call("poll", "acme-1"), call("poll", "acme-1", ask={}), call("poll", "acme-1", ask={"acks": [], "errors": []}), call("poll", "acme-1", ask={"acks": [7], "errors": [], "max": None}),
         call("poll", "acme-1", ask={"acks": [], "errors": {}, "max": None}), call("poll", "acme-1", ask={"acks": [], "errors": [["a"]], "max": None}), call("poll", "acme-1", ask={"acks": [], "errors": [["a", 7]], "max": None}),
         call("poll", "acme-1", ask={"acks": [], "errors": [["a", "b", "c"]], "max": None}), call("poll", "acme-1", ask={"acks": [], "errors": [], "max": -1}), call("poll", "acme-1", ask={"acks": [], "errors": [], "max": 2**62 + 1}),
-        call("publish"), call("publish", publication={}), publish(9, subject={}), publish(9, uri=VERIFICATION), operate("operator_status", "acme-1"), operate("operator_status", 7, status="paused"), "call " + text({"call": "deliver"}), call("operator_delete"), call("streams"), call("streams", **{"from": -1}), call("streams", **{"from": "0"}),
+        call("publish"), call("publish", publication={}), publish(9, subject={}), publish(9, uri=VERIFICATION), operate("operator_status", "acme-1"), operate("operator_status", 7, status="paused"), "call " + text({"call": "deliver"}), call("operator_delete"), call("streams"), call("streams", **{"from": -1}), call("streams", **{"from": "0"}), call("refused"), call("refused", **{"from": -1}),
         call("hand"), call("hand", streams="acme-1"), call("hand", streams=[7]), settle("acme-1", -1), settle("acme-1", None), settle("acme-1", 1, "Accepted"), settle("acme-1", 1, "reported"), settle("acme-1", 1, "reported", code=7), settle("acme-1", 1, None),
     ], "bad-case"),
     *each("Nor do rules that are none", str, ["rules ", "rules {}", "rules []", rules(defaults="all"), rules(defaults=None), rules(interval=86401), rules(interval=-1), rules(interval="0"), rules(issuer=7), rules(clients={}), rules(clients=[7]), rules(clients=[{"name": "a"}]), rules(clients=[{"aud": [], "name": 7}]), rules(clients=[{"aud": "b", "name": "a"}]), rules(clients=[{"aud": [7], "name": "a"}])], "bad-case"),
@@ -608,6 +655,6 @@ FORMS = [
 def lines():
     """The lines of the cases, each before its answer."""
     out = []
-    for shows, line, answer in NONE_STANDS + STREAMS + STATUSES + POLLS + PUSHES + VERIFICATIONS + SIZES + AUTHORS + SUBJECTS + OVERSEEN + FORMS:
+    for shows, line, answer in NONE_STANDS + STREAMS + STATUSES + POLLS + PUSHES + VERIFICATIONS + SIZES + AUTHORS + SUBJECTS + OVERSEEN + REPORTED + FORMS:
         out += [f"# {shows}."] * bool(shows) + [line, "> " + answer]
     return [line.encode() for line in out]

@@ -65,6 +65,31 @@ def coded(code, spot):
     return response(400, b'{"description":"%s","err":"%s"}' % (spot.encode(), code.encode()), "content-language: en")
 
 
+# Metrics: the name of each, what it is and its kind (docs/FORMATS.md); one with labels has no value where nothing was counted.
+METRICS = [
+    ("signals_tokens_total", "Tokens that were taken, each once.", "counter"),
+    ("signals_session_rows", "Rows of the session table.", "gauge"),
+    ("signals_uptime_seconds", "Seconds since the start.", "gauge"),
+    ("signals_links_open", "Links that are open.", "gauge"),
+    ("signals_door_faults_total", "Accepts that found no descriptor or memory free.", "counter"),
+    ("signals_requests_total", "Requests, by method, route and status.", "counter"),
+    ("signals_links_ended_total", "Links that ended, by cause.", "counter"),
+    ("signals_pushes_total", "Pushes, by outcome.", "counter"),
+    ("signals_reported_total", "Tokens that were reported as faulty, by code.", "counter"),
+    ("signals_store_bytes", "Bytes of the store's file in force.", "gauge"),
+]
+
+
+def figures(rows, *tokens):
+    # a new store has 36 bytes, and a record ten beside its token (docs/FORMATS.md, the files of a store, and records)
+    values = {
+        "signals_tokens_total": len(tokens), "signals_session_rows": rows, "signals_uptime_seconds": 0, "signals_links_open": 0, "signals_door_faults_total": 0,
+        "signals_store_bytes": 36 + sum(10 + len(it) for it in tokens),
+    }
+    told = "".join(f"# HELP {name} {what}\n# TYPE {name} {kind}\n" + (f"{name} {values[name]}\n" if name in values else "") for name, what, kind in METRICS)
+    return response(200, told.encode()).replace(b"application/json", b"text/plain; version=0.0.4")
+
+
 def push(body, bearer="push-me", *fields):
     return request("POST", "/push", body, bearer, "content-type: application/secevent+jwt", *fields)
 
@@ -105,6 +130,9 @@ def links():
     yield link("Bodies that are no subject (RFC 9493, section 3).",
                b"".join(request("POST", "/sessions/check", body) for body in (b"", b"[]", b"{}", b'{"format":"opaque"}', b'{"format":"opaque","id":"s-77","x":1}')),
                "end", bad("body") * 2, bad("subject") * 3)
+    yield link("The figures, over a node by itself, which counts nothing: one token was taken, and one row stands.",
+               request("GET", "/metrics") + request("GET", "/metrics", b"", "push-me") + request("POST", "/metrics"), "end",
+               figures(1, good), response(401, b"", "www-authenticate: Bearer"), response(405, b"", "allow: GET"))
     yield link("A head that is none is answered once, and the link closes.", b"nonsense\r\n\r\n" + check("s-77"), "head", unread("head"))
     yield link("A request says its host once (RFC 9112, section 3.2).", check("s-77").replace(b"host: rp.example\r\n", b""), "host", unread("host"))
     yield link("The absolute form of a target is its path (RFC 9112, section 3.2.2).", check("s-77").replace(b" /sessions", b" http://rp.example/sessions"), "end", seen)

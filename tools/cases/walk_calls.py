@@ -84,6 +84,7 @@ class Drawn:
             (6, lambda: operate("operator_status", self.stream(), at=self.now, **self.status())),
             (1, lambda: operate("operator_delete", self.stream())),
             (4, lambda: call("streams", **{"from": self.rng.randrange(6)})),
+            (4, lambda: call("refused", **{"from": self.rng.randrange(9)})),
             (2, lambda: call("figures")),
             (14, lambda: call(self.rng.choice(["add", "add", "remove"]), self.stream(), subject=self.subject())),
             (8, lambda: call("verify", self.stream(), at=self.now, **({"state": "s"} if self.rng.random() < 0.5 else {}))),

@@ -3,8 +3,8 @@
 # text, or with status 9 after a prefix of it and the last line of that status.
 #
 # The built program gets its memory by the C library's `malloc` and `realloc` alone. A small library that is loaded
-# before that one counts these calls, in a file since the program runs nothing of it at its end, and refuses those of the
-# given numbers: each alone, and each with all after it.
+# before that one (`refusing.c`) counts these calls, in a file since the program runs nothing of it at its end, and refuses
+# those of the given numbers: each alone, and each with all after it.
 set -eu
 cd "$(dirname "$0")/../.."
 # Builds the program where that has to be.
@@ -13,37 +13,7 @@ program=crates/signals/out/signals
 folder=$(mktemp -d)
 trap 'rm -rf "$folder"' EXIT
 
-cc -shared -fPIC -o "$folder/refusing.so" -x c - <<'C'
-#define _GNU_SOURCE
-#include <dlfcn.h>
-#include <fcntl.h>
-#include <stdlib.h>
-#include <sys/mman.h>
-
-static long *calls;
-
-__attribute__((constructor)) static void begin(void) {
-    int file = open(getenv("COUNT"), O_RDWR);
-    void *place = mmap(NULL, sizeof(long), PROT_READ | PROT_WRITE, MAP_SHARED, file, 0);
-    calls = place == MAP_FAILED ? NULL : place;
-}
-
-static int is_refused(void) {
-    if (!calls) return 0;
-    ++*calls;
-    return *calls >= atol(getenv("FIRST")) && *calls <= atol(getenv("LAST"));
-}
-
-void *malloc(size_t size) {
-    void *(*given)(size_t) = dlsym(RTLD_NEXT, "malloc");
-    return is_refused() ? NULL : given(size);
-}
-
-void *realloc(void *place, size_t size) {
-    void *(*given)(void *, size_t) = dlsym(RTLD_NEXT, "realloc");
-    return is_refused() ? NULL : given(place, size);
-}
-C
+cc -shared -fPIC -o "$folder/refusing.so" tools/checks/refusing.c
 
 # Runs the program with the calls from FIRST to LAST refused.
 run_refused() { # FIRST LAST INPUT OUTPUT WORDS..

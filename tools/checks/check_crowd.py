@@ -104,7 +104,7 @@ def crowd(server, seconds):
 
 
 def few_descriptors(server):
-    """A server that may hold 40 descriptors, and 200 connections at once: each is answered."""
+    """A server that may hold 40 descriptors, and 200 connections at once: each is answered, and the metrics tell what it lacked."""
 
     def limited():
         resource.setrlimit(resource.RLIMIT_NOFILE, (40, 40))
@@ -119,6 +119,8 @@ def few_descriptors(server):
         need(link.recv(12) == b"HTTP/1.1 200", f"with few descriptors connection {number} isn't answered")
         link.close()
     answered(server)
+    _, _, said = server.ask_as_text("GET", "/operator/metrics", bearer="operator")
+    need(b"\nsignals_door_faults_total 0\n" not in said and b"\nsignals_door_faults_total " in said, "no accept is told that lacked a descriptor")
     server.kill()
 
 

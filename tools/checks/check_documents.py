@@ -36,6 +36,19 @@ SECTIONS = {
 }
 # How wide a line of prose may be, and how long a sentence of the README.
 COLUMNS, WORDS = 100, 25
+# The sources that read members of settings, with the kinds of the objects that are asked: of the settings, and inside them.
+READERS = {
+    "sig_settings/key.rt": (None, "Key"),
+    "sig_txsettings/settings.rt": ("Transmitter", None),
+    "sig_txsettings/client.rt": ("Transmitter", "Client"),
+    "sig_rxsettings/settings.rt": ("Receiver", None),
+    "sig_rxsettings/issuer.rt": (None, "Issuer"),
+    "sig_rxsettings/key.rt": (None, "IssuerKey"),
+    "sig_rxsettings/principal.rt": ("Receiver", "Principal"),
+    "sig_rxsettings/peer.rt": ("Receiver", "Peer"),
+}
+# The members of a JWK that are known and not read (RFC 7517, section 4).
+UNREAD = {"use", "key_ops", "x5u", "x5c", "x5t", "x5t#S256"}
 
 faults = []
 
@@ -253,26 +266,58 @@ def spelled_line(definition):
     line = ""
     for part in definition.split("++"):
         literal = re.match(r'codes "(.*)"$', part.strip())
-        name = part.split()[-1]
+        name = re.split(r"[ .]", part.strip())[-1]
         line += literal.group(1) if literal else f"<{name}>"
     return line
 
 
 def check_lines(text):
-    """The lines on standard error, and the words of their causes, are those that `sig_notes` defines."""
-    spelled = text_of("crates/sig_notes/specs/Lines.antt")
-    definitions = re.findall(r"^(\w+) ([\w ]+) =\s+(.*)$", spelled, re.M)
+    """The lines on standard error, and the words of their causes, are those that two crates define."""
+    spelled = text_of("crates/sig_notes/specs/Lines.antt") + text_of("crates/sig_stray/specs/Lines.antt")
+    definitions = re.findall(r"^(\w+) ([\w ]+) =\s+(.*(?:\n +\+\+.*)*)$", spelled, re.M)
     wanted = {spelled_line(definition) for name, _, definition in definitions if "codes" in definition and name != "or_dash"}
     section = re.split(r"^## ", text, flags=re.M)
     section = next((part for part in section if part.startswith("Lines on standard error\n")), "")
     table = {cells(line)[0].strip("`") for line in section.splitlines() if line.startswith("| `") and len(cells(line)) == 3}
     for line in sorted(wanted ^ table):
-        tell("docs/FORMATS.md", f"the line '{line}' stands in one of the table and crates/sig_notes/specs/Lines.antt alone")
+        tell("docs/FORMATS.md", f"the line '{line}' stands in one of the table and specs/Lines of sig_notes and sig_stray alone")
     for kind in ("push", "link", "end"):
         words = re.findall(rf'^{kind}_text {kind}\.\w+ = codes "(.*)"$', spelled, re.M)
         listed = re.search(rf"^\| `{kind}` \| (.*) \|$", section, re.M)
         if not listed or re.findall(r"`(.*?)`", listed.group(1)) != words:
             tell("docs/FORMATS.md", f"the causes of '{kind}' are {words} in crates/sig_notes/specs/Lines.antt")
+
+
+def members_read():
+    """The members that readers of settings ask for, by the kind of the object: `needed` and `optional` ask the settings themselves,
+    and `member_in` and `optional_in` the object of the file."""
+    names = {}
+    for crate in ("sig_settings", "sig_txsettings", "sig_rxsettings"):
+        for file in sorted(os.listdir(os.path.join(TOP, "crates", crate, "src"))):
+            source = text_of(f"crates/{crate}/src/{file}")
+            for call, name in re.findall(r'\b(needed|optional|member_in|optional_in)::<[^(]*>\(\s*[^"()]*"(\w+)"', source):
+                whole, inner = READERS.get(f"{crate}/{file}", (None, None))
+                names.setdefault(whole if call in ("needed", "optional") else inner, set()).add(name)
+    names["IssuerKey"] |= names["Key"]
+    return names
+
+
+def check_members(text):
+    """The table of known members has what the readers of settings ask for, what is known and not read, and no more; and so have the
+    tables of the document."""
+    table = text_of("crates/sig_stray/specs/Table.antt")
+    known = {}
+    for kind, rows in re.findall(r"^members_of (\w+) =(.*?)∷ \[\]$", table, re.M | re.S):
+        known[kind] = set(re.findall(r'codes "([^"]*)"', rows))
+    wanted = members_read()
+    wanted["IssuerKey"] |= UNREAD
+    for kind in sorted(wanted.keys() | known.keys(), key=str):
+        for name in sorted(wanted.get(kind, set()) ^ known.get(kind, set())):
+            tell("crates/sig_stray/specs/Table.antt", f"the member '{name}' of {kind} is in the table alone, or is read and isn't there")
+    for whose, kind in ("transmitter", "Transmitter"), ("receiver", "Receiver"):
+        rows = text.split(f"| Member of a {whose}'s settings |")[1].split("\n\n")[0]
+        if set(re.findall(r"^\| `(\w+)` \|", rows, re.M)) != known[kind]:
+            tell("docs/FORMATS.md", f"the members of a {whose}'s settings aren't those of crates/sig_stray/specs/Table.antt")
 
 
 def main():
@@ -290,6 +335,7 @@ def main():
     check_ways(text_of("docs/ARCHITECTURE.md"))
     check_promises(text_of("docs/PROMISES.md"))
     check_lines(text_of("docs/FORMATS.md"))
+    check_members(text_of("docs/FORMATS.md"))
     print("\n".join(faults) or "documents: ok")
     sys.exit(1 if faults else 0)
 

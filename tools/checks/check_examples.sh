@@ -37,10 +37,10 @@ trap 'rm -r "$room"' EXIT
 "$program" init rx "$room/rx" 6ba7b811-9dad-11d1-80b4-00c04fd430c8
 check_same "$("$program" fetch "$settings" "$room/rx" 1)" 'signals: settings poll'
 
-# A server reads its settings before it looks for its store, as `./signals settings` uses. It makes no store.
-for words in 'serve examples/transmitter.json' 'receive examples/receiver.json' "receive $settings"; do
+# Settings are read whole before a store is looked for, as `./signals settings` uses. None is made.
+for words in 'courier examples/transmitter.json none' 'fetch examples/receiver.json none 1' "receive $settings none 1"; do
     # shellcheck disable=SC2086
-    check_same "$("$program" $words "$room/none" 1)" 'signals: no store'
+    check_same "$("$program" ${words/none/"$room/none"} </dev/null)" 'signals: no store'
 done
 check_same "$(find "$room" -name 'none*')" ''
 echo 'examples: each prints what stands beside it'

@@ -1,7 +1,7 @@
 #!/usr/bin/env -S python3 -B
 """A server tries late pushes again by itself, over real sockets (RFC 8935, section 2.4).
 
-    python3 -B tools/checks/check_late.py [PROGRAM]
+    python3 -B tools/checks/check_late.py [PROGRAM [PUBLICATIONS]]
 
 Three receivers of which one refuses each link, one never answers and one drips a byte a second stand before forty that are
 well. Once the three are known to be late, each publication reaches the forty within two seconds, though nobody asks for a
@@ -26,9 +26,9 @@ from checks.check_server import Server
 from checks.served import built_program, free_port, need
 
 # How many receivers are well, how many clients they share, and how many publications reach each of them.
-WELL, CLIENTS, PUBLICATIONS = 40, 4, 150
-# After which publications the server is killed: behind those whose time is measured.
-KILLS = (100, 120, 140)
+WELL, CLIENTS, PUBLICATIONS = 40, 4, 1_000
+# How many publications before the last ones the server is killed: behind those whose time is measured.
+KILLS = (50, 30, 10)
 # A late stream waits half a minute after its first attempt; an accept waits a second; the rest is room.
 FIRST_WAIT = 30
 
@@ -92,7 +92,7 @@ def start_again(server):
     server.start()
 
 
-def well_beside_late(server, names):
+def well_beside_late(server, names, publications):
     """Each publication reaches those that are well, also where the server is killed after it."""
     make_stream(server, names[0], f"http://127.0.0.1:{free_port()}/events")
     slow = [Slow(False), Slow(True)]
@@ -107,10 +107,10 @@ def well_beside_late(server, names):
     until(lambda: all(one.links >= 2 for one in slow), 40, "a slow receiver isn't tried again")
     time.sleep(16)
     longest, killed = 0, 0
-    for number in range(1, PUBLICATIONS):
+    for number in range(1, publications):
         began = time.time()
         subjects.append(published(server, number))
-        if number in KILLS:
+        if publications - number in KILLS:
             start_again(server)
             killed += 1
             until(lambda: all(len(endpoint.subjects()) == len(subjects) for endpoint in well), 20, "a token isn't pushed after the start")
@@ -165,7 +165,7 @@ def main():
         names = with_clients(server)
         need(server.run("init", "tx", server.store, str(uuid.UUID(int=8))) == (0, ""), "a store isn't made")
         server.start()
-        longest, killed, subjects = well_beside_late(server, names)
+        longest, killed, subjects = well_beside_late(server, names, int(sys.argv[2]) if sys.argv[2:] else PUBLICATIONS)
         need(longest <= 2, f"a token comes after {longest:.1f} seconds beside late receivers")
         server.kill()
     print(f"{len(subjects)} publications to {WELL} receivers beside three that were late: {longest * 1000:.0f} ms at most, {killed} kills; one that was away has its tokens after {waited:.0f} seconds")

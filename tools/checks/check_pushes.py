@@ -47,6 +47,8 @@ class Endpoint:
 
     def begin(self, answer, port):
         self.answer, self.tokens, self.port, self.delay = answer, [], port, 0
+        # the subjects of the first so many tokens, each where it came first
+        self.read, self.first = 0, {}
         endpoint = self
 
         class Handler(http.server.BaseHTTPRequestHandler):
@@ -77,7 +79,12 @@ class Endpoint:
 
     def subjects(self):
         """The subjects of the tokens, each where it came first: two rounds of a stream at the same time push a token twice."""
-        return [*dict.fromkeys(claims_of(token)["sub_id"]["id"] for token in self.tokens)]
+        if self.read > len(self.tokens):
+            self.read, self.first = 0, {}
+        for token in self.tokens[self.read :]:
+            self.first.setdefault(claims_of(token)["sub_id"]["id"])
+            self.read += 1
+        return [*self.first]
 
 
 def push_stream(server, url):

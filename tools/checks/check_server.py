@@ -31,7 +31,7 @@ import uuid
 sys.dont_write_bytecode = True
 sys.path.insert(0, os.path.join(os.path.dirname(os.path.abspath(__file__)), ".."))
 from checks import server_rows
-from checks.served import Served, built_program, free_port, need
+from checks.served import Served, built_program, free_port, is_free, need
 from checks.server_rows import PUSH, SESSION_REVOKED
 
 KEY = b"0123456789abcdef0123456789abcdef"
@@ -148,23 +148,36 @@ def refusals(server, room):
     ended = server.run("serve", server.settings, missing, "1")
     need(ended == (6, "signals: no store\n"), f"a store that isn't there: {ended}")
     need(not any(os.path.exists(f"{missing}.{file}") for file in "ab"), "a store is made that wasn't there")
+    need(is_free(server.port), "the place of a server that found no store isn't free after it")
     need(server.run("init", "rx", other, str(uuid.UUID(int=9))) == (0, ""), "a receiver's store isn't made")
     need(os.stat(other + ".a").st_mode & 0o777 == 0o600, "a new store isn't its owner's alone")
     ended = server.run("serve", server.settings, other, "1")
     need(ended == (6, "signals: damaged a 6\n"), f"a receiver's store: {ended}")
+    need(is_free(server.port), "the place of a server over a damaged store isn't free after it")
 
 
 def taken(server):
-    """A second server at the place and over the store of one that runs."""
-    other = os.path.join(os.path.dirname(server.store), "second")
-    need(server.run("init", "tx", other, str(uuid.UUID(int=10))) == (0, ""), "a second store isn't made")
-    words = [server.program, "serve", server.settings, other, "1"]
-    ran = subprocess.run(words, capture_output=True, timeout=60, check=False)
-    need((ran.returncode, ran.stdout) == (7, b"signals: network failed\n"), f"a place that is taken: {ran}")
-    need(b"the place is in use" in ran.stderr, f"a place that is taken isn't said: {ran.stderr}")
-    ran = subprocess.run([*words[:3], server.store, "1"], capture_output=True, timeout=60, check=False)
+    """A second server at the place of one that runs, where no store is and over its store; and one over its store at another place.
+
+    The first two wait for the place for ten seconds, and look for no store before they have it.
+    """
+    missing, elsewhere = os.path.join(server.room, "mistyped"), os.path.join(server.room, "elsewhere.json")
+    words = [server.program, "serve", server.settings]
+    begun, runs = time.monotonic(), []
+    for store in (missing, server.store):
+        runs.append(subprocess.Popen([*words, store, "1"], stdout=subprocess.PIPE, stderr=subprocess.PIPE))
+    for run in runs:
+        out, said = run.communicate(timeout=60)
+        need((run.returncode, out) == (7, b"signals: network failed\n"), f"a place that is taken: {run.returncode} {out} {said}")
+        need(said == b"signals: the place is in use\n", f"a place that is taken is said so: {said}")
+    need(time.monotonic() - begun >= 10, "a place that is taken isn't asked for again for ten seconds")
+    need(not any(os.path.exists(f"{missing}.{file}") for file in "ab"), "a store is made where the place is taken")
+    port = free_port()
+    server.write(elsewhere, {**server.said, "listen": f"127.0.0.1:{port}"})
+    ran = subprocess.run([*words[:2], elsewhere, server.store, "1"], capture_output=True, timeout=60, check=False)
     need((ran.returncode, ran.stdout) == (5, b"signals: store failed\n"), f"a store that is in use: {ran}")
     need(b"the store is in use" in ran.stderr, f"a store that is in use isn't said: {ran.stderr}")
+    need(is_free(port), "the place of a server whose store is in use isn't free after it")
 
 
 def check_tokens(told, published):

@@ -8,9 +8,10 @@ not answered 202, and no later one is, since the receiver's store is broken. It 
 in the journal once, the second at most once. Pushed again, the second is answered 202 and stands there once, also after a
 further start. So it is told of a push all of whose syncs succeed.
 
-As a store is opened, each sync of a file or of its folder fails in turn: the run ends with 5 before it listens. And what is asked
-of the system then is told: both files are locked and synced, the system forgets its pages of them, and their folder is synced,
-before the first byte of either is read. `init` syncs the folder after it made a file there.
+As a store is opened, each sync of a file or of its folder fails in turn: the run ends with 5 before it says that it serves. And
+what is asked of the system then is told: both files are locked and synced, the system forgets its pages of them, and their folder
+is synced, before the first byte of either is read. A server whose place is in use opens no file of its store. `init` syncs the
+folder after it made a file there.
 
 Without a built program, where no socket can be opened, or without a strace that may trace, it says that it is passed over.
 """
@@ -28,7 +29,7 @@ sys.dont_write_bytecode = True
 sys.path.insert(0, os.path.join(os.path.dirname(os.path.abspath(__file__)), ".."))
 from checks.check_receiver import Receiver
 from checks.receiver_rows import push, token
-from checks.served import built_program, need
+from checks.served import built_program, free_port, need
 
 # More than a push has syncs, and more than the opening of a store has.
 SYNCS = 12
@@ -125,11 +126,12 @@ def openings(receiver):
     """How many syncs the opening of a store has; each of them failed once, and the run ended."""
     for number in range(1, SYNCS):
         words = ["-e", "trace=fsync", "-e", f"inject=fsync:error=EIO:when={number}", *serving(receiver)]
-        process = subprocess.Popen(["strace", "-f", "-o", "/dev/null", *words], stdout=subprocess.PIPE, stderr=subprocess.DEVNULL)
+        with open(f"{receiver.store}.lines", "ab") as lines:
+            process = subprocess.Popen(["strace", "-f", "-o", "/dev/null", *words], stdout=subprocess.PIPE, stderr=lines)
         for _ in range(500):
             if process.poll() is not None:
                 break
-            if listens(receiver):
+            if receiver.begun():
                 for child in children(process.pid):
                     os.kill(child, 9)
                 process.communicate()
@@ -145,14 +147,6 @@ def children(pid):
         return [int(word) for word in file.read().split()]
 
 
-def listens(receiver):
-    try:
-        http.client.HTTPConnection("127.0.0.1", receiver.port, timeout=1).connect()
-        return True
-    except OSError:
-        return False
-
-
 def calls_on(lines, path):
     """The names of the calls on a file in order; of the reads the first alone."""
     names = [found[1] for line in lines if (found := re.search(rf"^\d+ +(\w+)\(\d+<{re.escape(path)}>", line))]
@@ -160,16 +154,21 @@ def calls_on(lines, path):
 
 
 def order(receiver):
-    """What is asked of the system as a store is opened, and as one is made."""
+    """What is asked of the system as a store is opened, where the place is taken, and as a store is made."""
     calls = "trace=openat,flock,fsync,fdatasync,fadvise64,pread64,pwrite64"
-    # the port is taken, so that the run ends once the store is loaded
     receiver.start()
     other = Syncing(receiver.program, os.path.join(receiver.room, "other"))
     other.said["listen"] = receiver.said["listen"]
+    # nobody listens at the peer's place, so that a fetch ends once the store is loaded
+    other.said["poll"]["url"] = f"http://127.0.0.1:{free_port()}/"
     other.write(other.settings, other.said)
     status, out, lines = traced(other, "-e", calls, *serving(other))
     receiver.kill()
-    need((status, out) == (7, "signals: network failed\n"), f"a port that is taken: {status} {out!r}")
+    need((status, out) == (7, "signals: network failed\n"), f"a place that is taken: {status} {out!r}")
+    need(any(other.settings in line for line in lines), "settings are read, and strace doesn't tell it")
+    need(not any(other.store + end in line for line in lines for end in (".a", ".b")), "a store is opened where the place is taken")
+    status, out, lines = traced(other, "-e", calls, other.program, "fetch", other.settings, other.store, "1")
+    need((status, out) == (7, "signals: network failed\n"), f"a peer that isn't there: {status} {out!r}")
     first_read = next((place for place, line in enumerate(lines) if re.search(rf"pread64\(\d+<{re.escape(other.store)}", line)), len(lines))
     for end in (".a", ".b"):
         told = calls_on(lines[:first_read], other.store + end)

@@ -5,11 +5,11 @@ import os
 import resource
 import signal
 import socket
-import subprocess
 import threading
+import time
 import uuid
 
-from checks.served import TOP, free_port, need
+from checks.served import TOP, free_port, is_free, need
 from cases.sign_tokens import JOE, claims, header, opaque, signed
 
 REVOKED = "https://schemas.openid.net/secevent/caep/event-type/session-revoked"
@@ -55,20 +55,24 @@ def refusals(receiver, room):
         ended = receiver.run(word, receiver.settings, missing, "1")
         need(ended == (6, "signals: no store\n"), f"a store that isn't there: {ended}")
         need(not any(os.path.exists(f"{missing}.{file}") for file in "ab"), f"{word} makes a store")
+        need(is_free(receiver.port), f"the place is not free after {word} found no store")
         ended = receiver.run(word, receiver.settings, tx, "1")
         need(ended == (6, "signals: damaged a 6\n"), f"a transmitter's store: {ended}")
 
 
 def taken(receiver, room):
-    """A second receiver at the place and over the store of one that runs."""
-    other = os.path.join(room, "second")
-    need(receiver.run("init", "rx", other, str(uuid.UUID(int=10))) == (0, ""), "a second store isn't made")
-    words = [receiver.program, "receive", receiver.settings, other, "1"]
-    ran = subprocess.run(words, capture_output=True, timeout=60, check=False)
-    need((ran.returncode, ran.stdout) == (7, b"signals: network failed\n"), f"a place that is taken: {ran}")
+    """A second receiver at the place of one that runs, where no store is, and two over its store at another place."""
+    missing, elsewhere, port = os.path.join(room, "mistyped"), os.path.join(room, "elsewhere.json"), free_port()
+    begun = time.monotonic()
+    ended = receiver.run("receive", receiver.settings, missing, "1")
+    need(ended == (7, "signals: network failed\n"), f"a place that is taken: {ended}")
+    need(time.monotonic() - begun >= 10, "a place that is taken isn't asked for again for ten seconds")
+    need(not any(os.path.exists(f"{missing}.{file}") for file in "ab"), "a store is made where the place is taken")
+    receiver.write(elsewhere, {**receiver.said, "listen": f"127.0.0.1:{port}"})
     for word in ("receive", "fetch"):
-        ended = receiver.run(word, receiver.settings, receiver.store, "1")
+        ended = receiver.run(word, elsewhere, receiver.store, "1")
         need(ended == (5, "signals: store failed\n"), f"a store that is in use: {ended}")
+        need(is_free(port), f"the place is not free after {word} found its store in use")
 
 
 def routes(receiver):
@@ -78,6 +82,9 @@ def routes(receiver):
         ("PUT", "/push", "{}", None, 405, ("allow", "POST")),
         ("POST", "/sessions", "{}", None, 405, ("allow", "GET")),
         ("GET", "/sessions/check", None, None, 405, ("allow", "POST")),
+        ("POST", "/metrics", "{}", None, 405, ("allow", "GET")),
+        ("GET", "/metrics", None, None, 401, ("www-authenticate", "Bearer")),
+        ("GET", "/metrics", None, "push", 401, ("www-authenticate", "Bearer")),
         ("GET", "/sessions?from=x", None, None, 401, ("www-authenticate", "Bearer")),
         ("GET", "/sessions?from=x", None, "push", 401, ("www-authenticate", "Bearer")),
         ("POST", "/sessions/check", "[]", "push", 401, ("www-authenticate", "Bearer")),

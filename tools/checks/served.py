@@ -27,6 +27,18 @@ def free_port():
         return found.getsockname()[1]
 
 
+def is_free(port):
+    """Whether a server could listen at this port now, as one does that has the option SO_REUSEADDR."""
+    with socket.socket() as tried:
+        tried.setsockopt(socket.SOL_SOCKET, socket.SO_REUSEADDR, 1)
+        try:
+            tried.bind(("127.0.0.1", port))
+            tried.listen()
+            return True
+        except OSError:
+            return False
+
+
 def program_path():
     """The program that the first word or else SIGNALS_PROGRAM names, or the proved one, where that is built here."""
     named = sys.argv[1] if len(sys.argv) > 1 else os.environ.get("SIGNALS_PROGRAM")
@@ -69,8 +81,11 @@ class Served:
         return ran.returncode, ran.stdout.decode()
 
     def start(self, before=None, wait=10):
-        """Starts it, and waits at most so many seconds until it listens."""
-        words = [self.program, self.word, self.settings, self.store, "1000000"]
+        """Starts it, and waits at most so many seconds until it has loaded its store, as its first line says.
+
+        It listens before. With a limit on what it may write that line may be missing, and listening is enough.
+        """
+        words, begun = [self.program, self.word, self.settings, self.store, "1000000"], self.begun()
         with open(f"{self.store}.lines", "ab") as lines:
             self.running = subprocess.Popen(words, stdout=subprocess.PIPE, stderr=lines, preexec_fn=before)
         # where a check fails, no server is left behind
@@ -79,11 +94,19 @@ class Served:
             if self.running.poll() is not None:
                 fail(f"the server ended with {self.running.returncode}: {self.running.communicate()[0]} {self.lines()}")
             try:
-                socket.create_connection(("127.0.0.1", self.port), 1).close()
-                return
+                if before or self.begun() > begun:
+                    socket.create_connection(("127.0.0.1", self.port), 1).close()
+                    return
             except OSError:
-                time.sleep(0.02)
+                pass
+            time.sleep(0.02)
         fail("the server doesn't listen")
+
+    def begun(self):
+        """How many of its runs said that they serve."""
+        if not os.path.exists(f"{self.store}.lines"):
+            return 0
+        return sum(line.split(" ")[1:2] in (["serving"], ["receiving"]) for line in self.lines())
 
     def lines(self):
         """The lines on standard error of all its runs."""

@@ -166,7 +166,8 @@ def overseen(server, other):
     status, fields, text = server.ask_as_text("GET", "/operator/metrics", bearer="operator")
     need((status, fields["content-type"]) == (200, "text/plain; version=0.0.4"), f"the metrics are answered {status} {fields}")
     oldest = "signals_oldest_owed_timestamp_seconds{"
-    lines = text.decode().splitlines(keepends=True)
+    # what was counted stands behind the state's figures (check_metrics.py)
+    lines = text.decode().partition("# HELP signals_uptime_seconds ")[0].splitlines(keepends=True)
     need("".join(line for line in lines if not line.startswith(oldest)) == METRICS, f"the metrics are {text.decode()}")
     since = [line.split(" ") for line in lines if line.startswith(oldest)]
     need([name for name, _ in since] == [oldest + 'stream="zeta-1"}'], f"a token is owed by {since}")
@@ -191,6 +192,31 @@ def left_out(server, other, ours, theirs):
     need(server.ask("DELETE", "/operator/stream", bearer="operator")[0] == 400, "a deletion of nothing isn't refused")
     page = page_of(server)
     need(page == {"next": 1, "streams": [ours]}, f"after it streams stand like this: {page}")
+
+
+def refused(server):
+    """Tokens that a receiver reports as faulty (RFC 8936, section 2.4.4), as the operator reads them, over a restart too."""
+    path = "/operator/refused"
+    need(server.ask("GET", path, bearer="operator") == (200, {"next": 0, "refused": []}), "tokens were reported before one was")
+    for number in (921, 922):
+        need(publish(server, number)[0] == 200, "a publication isn't taken")
+    owed = sorted(server.ask("POST", "/poll/acme-1", {})[1]["sets"])
+    errors = {owed[0]: {"err": "invalid_audience", "description": "x"}, owed[1]: {"err": "c" * 65, "description": "x"}}
+    need(server.ask("POST", "/poll/acme-1", {"maxEvents": 0, "setErrs": errors})[0] == 200, "a report isn't taken")
+    for _ in range(2):
+        status, page = server.ask("GET", path, bearer="operator")
+        need(all(abs(token.pop("time") - time.time()) < 600 for token in page["refused"]), f"reported tokens have other times: {page}")
+        told = [
+            {"code": "invalid_audience", "number": 5, "publish_id": str(uuid.UUID(int=921)), "stream_id": "acme-1"},
+            {"number": 6, "publish_id": str(uuid.UUID(int=922)), "stream_id": "acme-1"},
+        ]
+        need((status, page) == (200, {"next": 2, "refused": told}), f"reported tokens are {status} {page}")
+        server.kill()
+        server.start()
+    status, page = server.ask("GET", path + "?from=1", bearer="operator")
+    need((status, page["next"], len(page["refused"])) == (200, 2, 1), f"from the second on they are {status} {page}")
+    need(server.ask("GET", path + "?from=2", bearer="operator") == (200, {"next": 2, "refused": []}), "behind the last one stands another")
+    need([server.ask("GET", path, bearer=bearer)[0] for bearer in ("client", None)] == [401, 401], "a client reads what was reported")
 
 
 def broken_clients(server):
@@ -249,6 +275,7 @@ def rows(server, room, is_long):
     settling(server, "change-me-zeta")
     limits(server)
     overseen(server, "change-me-zeta")
+    refused(server)
     broken_clients(server)
     if is_long:
         slow_client(server)

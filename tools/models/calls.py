@@ -14,6 +14,7 @@ STORE_WORD = word(bytes.fromhex(STORE.replace("-", "")))
 VERIFICATION, UPDATED = (PREFIX + "ssf/event-type/" + name for name in ["verification", "stream-updated"])
 BY_POLL = {"method": "poll"}
 LAST_NUMBER, PAYLOAD_BYTES, PAGE, MOST_STREAMS, STREAMS_PAGE = 2**62, 6000, 32, 16, 100
+REFUSED_KEPT, REFUSED_PAGE, CODE_BYTES = 10000, 100, 64
 KEEPING = ["authentication_failed", "access_denied"]
 STATUSES = ["enabled", "paused", "disabled"]
 
@@ -75,7 +76,7 @@ class Core:
     """A transmitter's streams and tokens, and what was published."""
 
     def __init__(self):
-        self.made, self.streams, self.tokens, self.published = {}, {}, [], {}
+        self.made, self.streams, self.tokens, self.published, self.refused = {}, {}, [], {}, []
 
     # -- streams and what they owe
 
@@ -209,6 +210,16 @@ class Core:
         place, standings = number(case, "from"), list(self.standings())
         return "standings " + dump({"next": min(place + STREAMS_PAGE, len(standings)), "streams": standings[place : place + STREAMS_PAGE]})
 
+    def refuse(self, token, code):
+        """A token that was reported as faulty, whatever becomes of its stream: all are here, and a page has of the last ones."""
+        made_by = [id for id, (_, answer) in self.published.items() if issued(token) in answer["tokens"]]
+        short = code if len(code.encode()) <= CODE_BYTES else None
+        self.refused.append({"code": short, "id": made_by[0] if made_by else None, **issued(token), "time": token["claims"]["iat"]})
+
+    def refusing(self, rules, case, now):
+        first = max(number(case, "from"), len(self.refused) - REFUSED_KEPT)
+        return "refused " + dump({"next": min(first + REFUSED_PAGE, len(self.refused)), "tokens": self.refused[first : first + REFUSED_PAGE]})
+
     def figures(self, rules, case, now):
         return "figures " + dump({"publications": len(self.published), "streams": list(self.standings())})
 
@@ -248,6 +259,8 @@ class Core:
         for token in self.owed(held):
             jti = token["claims"]["jti"]
             token["owed"] = jti not in acks and codes.get(jti, KEEPING[0]) in KEEPING
+            if jti not in acks and not token["owed"]:
+                self.refuse(token, codes[jti])
         offered, place = self.offered(held), PAGE if most is None else min(most, PAGE)
         return "sets " + dump({"more": len(offered) > place, "tokens": list(map(handed, offered[:place]))})
 
@@ -258,15 +271,15 @@ class Core:
         news = {name: given[name] for name in ["payload", "sub_id", "uri"]}
         if given["id"] in self.published:
             before, answer = self.published[given["id"]]
-            return answer if same(before, news) else "conflict"
+            return "published " + dump(answer) if same(before, news) else "conflict"
         due = [held for held in self.in_order() if is_due(held, given["sub_id"], given["uri"])]
         tokens = [self.token(held, given["sub_id"], given["uri"], given["payload"], now) for held in due]
         if max(map(size, tokens), default=0) > PAYLOAD_BYTES:
             return f"long {max(map(size, tokens))}"
         self.keep(tokens)
-        answer = "published " + dump({"store": STORE_WORD, "tokens": list(map(issued, tokens))})
+        answer = {"store": STORE_WORD, "tokens": list(map(issued, tokens))}
         self.published[given["id"]] = news, answer
-        return answer
+        return "published " + dump(answer)
 
     def deliver(self, rules, case, now):
         held = self.named(case)
@@ -286,6 +299,8 @@ class Core:
         found = [token for token in self.owed(held) if token["number"] == place and outcome != "keep"] if held else []
         for token in found:
             token["owed"] = False
+            if outcome == "reported":
+                self.refuse(token, case["code"])
         return f"settled {len(found)}"
 
 
@@ -294,7 +309,7 @@ CALLS = {
     for name in """metadata create read_all read patch put delete get_status set_status add remove verify poll publish operator_status
     operator_delete figures deliver hand settle""".split()
 }
-CALLS["streams"] = Core.listing
+CALLS["streams"], CALLS["refused"] = Core.listing, Core.refusing
 
 
 def is_due(held, subject, uri):

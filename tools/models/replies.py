@@ -53,6 +53,12 @@ def standing(case):
     return {"made": number(case, "made"), "owed": number(case, "owed"), "status": case["status"], "stream_id": member(case, "stream", str), **oldest}
 
 
+def refused(case):
+    """A token that was reported as faulty, as a page has it: the publication's name and the code where they are known."""
+    named = {key: member(case, name, str) for name, key in [("id", "publish_id"), ("code", "code")] if name in case}
+    return {"number": number(case, "number"), "stream_id": member(case, "stream", str), "time": number(case, "time"), **named}
+
+
 def metric(name, kind, help, values):
     """A metric of Prometheus' text format 0.0.4: its help, its kind, and a line for each value."""
     return [f"# HELP {name} {help}", f"# TYPE {name} {kind}"] + [f"{name}{label} {value}" for label, value in values]
@@ -91,6 +97,8 @@ def reply(case):
         return "200 " + dump({"tokens": [issued(token) for token in member(case, "tokens", list)]})
     if name == "standings":
         return "200 " + dump({"next": number(case, "next"), "streams": [standing(item) for item in member(case, "standings", list)]})
+    if name == "refused":
+        return "200 " + dump({"next": number(case, "next"), "refused": [refused(item) for item in member(case, "tokens", list)]})
     if name == "figures":
         # the lines of the body, as a text in JSON
         return "200 " + dump(metrics(number(case, "publications"), [standing(item) for item in member(case, "standings", list)]))

@@ -30,6 +30,7 @@ ROUTES = [
     ("POST", "/operator/deliver", "operator", "deliver"),
     ("DELETE", "/operator/stream", "operator", "operator_delete"),
     ("GET", "/operator/streams", "operator", "streams"),
+    ("GET", "/operator/refused", "operator", "refused"),
     ("GET", "/operator/metrics", "operator", "figures"),
 ]
 
@@ -115,7 +116,7 @@ def place_in(query):
 def by_query(name, query):
     if name == "figures":
         return name, {}
-    if name == "streams":
+    if name in ("streams", "refused"):
         return name, place_in(query)
     named = named_in(query, "stream_id")
     if name == "read" and not named:
@@ -140,7 +141,7 @@ def asked(name, case, client):
     if name == "poll":
         check_ask(case.get("body", "").encode())
         return "poll " + dump({**whose, "stream": case["path"][len("/poll/"):]})
-    if name in ("read", "delete", "get_status", "operator_delete", "streams", "figures"):
+    if name in ("read", "delete", "get_status", "operator_delete", "streams", "refused", "figures"):
         name, parts = by_query(name, case.get("query", ""))
     else:
         parts = parts_of(name, object_in(case.get("body", "")), case.get("gateway", False))
