@@ -57,7 +57,8 @@ pub fn call_value(alloc: Global, call: &Call) -> Result<Value, Memory> {
             reason,
         } => operator_status(alloc, stream, *status, reason),
         Call::OperatorDelete { stream } => of_stream(alloc, "operator_delete", stream),
-        Call::Streams { from } => listed(alloc, *from),
+        Call::Streams { from } => from_place(alloc, "streams", *from),
+        Call::Refused { from } => from_place(alloc, "refused", *from),
         Call::Figures => Ok(Value::Object(called(alloc, "figures")?)),
         Call::Deliver { stream } => of_stream(alloc, "deliver", stream),
         Call::Poll { .. } | Call::Hand { .. } | Call::Settle { .. } => Ok(Value::Null),
@@ -176,8 +177,9 @@ fn of_stream(alloc: Global, name: &str, stream: &Text) -> Result<Value, Memory> 
     Ok(Value::Object(members))
 }
 
-fn listed(alloc: Global, from: u64) -> Result<Value, Memory> {
-    let mut members = called(alloc, "streams")?;
+// A call of the operator that reads a page.
+fn from_place(alloc: Global, name: &str, from: u64) -> Result<Value, Memory> {
+    let mut members = called(alloc, name)?;
     put_value(alloc, &mut members, "from", Value::from(from))?;
     Ok(Value::Object(members))
 }

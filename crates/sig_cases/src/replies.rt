@@ -5,8 +5,8 @@ use crate::streams::conf_in;
 use sig_event::Status;
 use sig_http::Response;
 use sig_json::{Bytes, Items, Memory, Text, Value, list_of, present, text_of, value_named};
-use sig_lines::{number_at, said, spelled, valued};
-use sig_terms::{Answer, Issued, Standing, StreamConf};
+use sig_lines::{copy_member, is_text_or_missing, number_at, said, spelled, valued};
+use sig_terms::{Answer, Issued, RefusedToken, Standing, StreamConf};
 use sig_txroutes::response_of;
 use std::alloc::Global;
 
@@ -69,6 +69,7 @@ fn answer_in(alloc: Global, case: &Value) -> Result<Option<Answer>, Memory> {
         Some("state") => state(alloc, case),
         Some("published") => published(alloc, case),
         Some("standings") => page_standing(alloc, case),
+        Some("refused") => page_refused(alloc, case),
         Some("figures") => figures(alloc, case),
         Some(name) => named(alloc, name),
         None => Ok(None),
@@ -184,6 +185,46 @@ fn page_standing(alloc: Global, case: &Value) -> Result<Option<Answer>, Memory> 
         Some(standings) => Ok(Some(Answer::Standings { next, standings })),
         None => Ok(None),
     }
+}
+
+fn page_refused(alloc: Global, case: &Value) -> Result<Option<Answer>, Memory> {
+    let Some(next) = number_at(case, "next") else {
+        return Ok(None);
+    };
+    let Some(list) = list_of(case, "tokens") else {
+        return Ok(None);
+    };
+    let mut tokens = Vec::new(alloc);
+    for item in list.as_slice() {
+        match refused_in(alloc, item)? {
+            Some(token) => tokens.push(token)?,
+            None => return Ok(None),
+        }
+    }
+    Ok(Some(Answer::Refused {
+        next,
+        tokens: Items::of(tokens),
+    }))
+}
+
+fn refused_in(alloc: Global, item: &Value) -> Result<Option<RefusedToken>, Memory> {
+    if !is_text_or_missing(item, "id") || !is_text_or_missing(item, "code") {
+        return Ok(None);
+    }
+    let (Some(number), Some(time)) = (number_at(item, "number"), number_at(item, "time")) else {
+        return Ok(None);
+    };
+    let Some(stream) = copy_member(alloc, item, "stream")? else {
+        return Ok(None);
+    };
+    let id = copy_member(alloc, item, "id")?;
+    Ok(Some(RefusedToken {
+        stream,
+        number,
+        id,
+        code: copy_member(alloc, item, "code")?,
+        time,
+    }))
 }
 
 fn figures(alloc: Global, case: &Value) -> Result<Option<Answer>, Memory> {

@@ -29,6 +29,7 @@ TellsNothing (call.Publish id news) = Unit {0}
 TellsNothing (call.OperatorStatus stream status reason) = Unit {0}
 TellsNothing (call.OperatorDelete stream) = Unit {0}
 TellsNothing (call.Streams from) = Unit {0}
+TellsNothing (call.Refused from) = Unit {0}
 TellsNothing call.Figures = Unit {0}
 TellsNothing (call.Deliver stream) = Unit {0}
 TellsNothing (call.Hand streams) = Unit {0}

@@ -7,7 +7,7 @@ use sig_lines::{
     bare, defaults_text, delivery_value, encoded_text, named, requested_value, said, spelled,
     text_or_null, texts_value, valued,
 };
-use sig_outbox::{Answer, Issued, Standing, StreamConf, Token};
+use sig_outbox::{Answer, Issued, RefusedToken, Standing, StreamConf, Token};
 use sig_set::payload_text;
 use sig_stream::Endpoint;
 use std::alloc::Global;
@@ -29,6 +29,7 @@ pub fn told(alloc: Global, answer: &Answer) -> Result<Bytes, Memory> {
         Answer::Published { store_id, tokens } => published(alloc, *store_id, tokens.as_slice()),
         Answer::Handed { tokens } => handed(alloc, tokens.as_slice()),
         Answer::Standings { next, standings } => listed(alloc, *next, standings.as_slice()),
+        Answer::Refused { next, tokens } => reported(alloc, *next, tokens.as_slice()),
         Answer::Figures {
             publications,
             standings,
@@ -170,6 +171,28 @@ fn listed(alloc: Global, next: u64, standings: &[Standing]) -> Result<Bytes, Mem
     let streams = standings_value(alloc, standings)?;
     let value = json!(in alloc; {"next": next, "streams": streams})?;
     valued(alloc, "standings", &value)
+}
+
+fn reported(alloc: Global, next: u64, tokens: &[RefusedToken]) -> Result<Bytes, Memory> {
+    let mut values = Vec::new(alloc);
+    for token in tokens {
+        values.push(reported_value(alloc, token)?)?;
+    }
+    let tokens = Value::Array(values);
+    let value = json!(in alloc; {"next": next, "tokens": tokens})?;
+    valued(alloc, "refused", &value)
+}
+
+fn reported_value(alloc: Global, token: &RefusedToken) -> Result<Value, Memory> {
+    let id = text_or_null(alloc, &token.id)?;
+    let code = text_or_null(alloc, &token.code)?;
+    Ok(json!(in alloc; {
+        "code": code,
+        "id": id,
+        "number": token.number,
+        "stream": token.stream.as_str(),
+        "time": token.time
+    })?)
 }
 
 fn figured(alloc: Global, publications: u64, standings: &[Standing]) -> Result<Bytes, Memory> {

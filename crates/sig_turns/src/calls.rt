@@ -35,6 +35,7 @@ fn call_on_tokens(alloc: Global, name: &str, case: &Value) -> Result<Option<Call
         "operator_status" => operator_status(alloc, case),
         "operator_delete" => operator_delete(alloc, case),
         "streams" => Ok(streams(case)),
+        "refused" => Ok(refused(case)),
         "figures" => Ok(Some(Call::Figures)),
         "deliver" => deliver(alloc, case),
         "hand" => hand(alloc, case),
@@ -187,6 +188,11 @@ fn operator_delete(alloc: Global, case: &Value) -> Result<Option<Call>, Memory> 
 fn streams(case: &Value) -> Option<Call> {
     let from = number_at(case, "from")?;
     Some(Call::Streams { from })
+}
+
+fn refused(case: &Value) -> Option<Call> {
+    let from = number_at(case, "from")?;
+    Some(Call::Refused { from })
 }
 
 fn about(alloc: Global, case: &Value) -> Result<Option<Subject>, Memory> {

@@ -8,14 +8,14 @@ use std::alloc::Global;
 use std::test::Fail;
 
 // The first file of a transmitter's store without a record.
-const EMPTY: [u8; 36] = [
+pub const EMPTY: [u8; 36] = [
     0x5a, 0x53, 0x49, 0x47, 0x4a, 1, 0x54, 0, 0, 0, 0, 0, 0, 0, 0, 0x6b, 0xa7, 0xb8, 0x10, 0x9d,
     0xad, 0x11, 0xd1, 0x80, 0xb4, 0x00, 0xc0, 0x4f, 0xd4, 0x30, 0xc8, 0, 0, 0, 0, 0,
 ];
 
 // What loading a store gives.
 #[derive(Clone, Copy, PartialEq, Eq)]
-enum Outcome {
+pub enum Outcome {
     Held { file: u8, records: u64 },
     Damaged { file: u8, at: u64 },
     Failed,
@@ -23,12 +23,12 @@ enum Outcome {
 }
 
 // A disk with these bytes. One of its calls may be set to fail.
-fn disk(alloc: Global, bytes: &[u8], failing: Option<u64>) -> Result<MemDisk, Memory> {
+pub fn disk(alloc: Global, bytes: &[u8], failing: Option<u64>) -> Result<MemDisk, Memory> {
     Ok(MemDisk::new(alloc, Bytes::of(alloc, bytes)?, calls(alloc, failing)?))
 }
 
 // The journal of a store, and the number of the file in force.
-fn journal_of<D: Disk>(loaded: Loaded<D>) -> (Journal<D>, u8) {
+pub fn journal_of<D: Disk>(loaded: Loaded<D>) -> (Journal<D>, u8) {
     let Loaded {
         journal,
         file,
@@ -188,7 +188,7 @@ fn append<D: Disk>(
 }
 
 // What loading gives of what two disks rest with.
-fn rested(alloc: Global, a: &MemDisk, b: &MemDisk) -> Result<Outcome, Memory> {
+pub fn rested(alloc: Global, a: &MemDisk, b: &MemDisk) -> Result<Outcome, Memory> {
     outcome_of(alloc, a.image()?.as_slice(), b.image()?.as_slice())
 }
 
@@ -205,7 +205,7 @@ fn stopped(
 }
 
 // A record of 11 bytes.
-fn deletion(alloc: Global) -> Result<Framed, Memory> {
+pub fn deletion(alloc: Global) -> Result<Framed, Memory> {
     frame(alloc, b"\x06\x00\x00\x00\x06acme-1".as_slice())
 }
 

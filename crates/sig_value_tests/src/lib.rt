@@ -9,6 +9,8 @@
 #[cfg(test)]
 mod calls;
 #[cfg(test)]
+mod checkpoints;
+#[cfg(test)]
 mod copies;
 #[cfg(test)]
 mod delivery;
