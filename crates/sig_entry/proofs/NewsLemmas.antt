@@ -40,7 +40,7 @@ use Rattle.sig_event.proofs.ProperEvents as events
 use Rattle.sig_event.proofs.ReadsEvents.{reads_events, uri_found}
 use Rattle.sig_terms.specs.Fitting.{is_published_uri}
 use Rattle.sig_entry.specs.Parts as parts
-use Rattle.sig_entry.specs.Proper.{IsShortNews, IsShortSubject}
+use Rattle.sig_entry.specs.Proper.{IsShortNews, IsShortSubject, IsShortTold}
 use Rattle.sig_entry.proofs.Steps.{of_3, read_first, read_last}
 
 -- ---- texts that spell values
@@ -272,3 +272,33 @@ news_agree = record { reads = reads; spells = spells }
         let proper : IsShortNews (news a.value c.value) = record { subject = a.proper; event = c.proper.proper; type = type; short = c.proper.short } in
         let parted = of_3 (parts.subject_bytes a.value) (kinds.text_bytes (uri_of c.value)) (kinds.text_bytes (event_text c.value)) in
         (subst IsShortNews found.0 proper, all ∙ ap (λ (l : List ℕ). l ++ c.mid) (sym parted) ∙ (λ i. parts.news_bytes (found.0 i) ++ found.1 i))
+
+pub told_agree : Agrees IsShortTold parts.news_bytes parts.any_news
+told_agree = record { reads = reads; spells = spells }
+  where
+    reads : (n : News) (rest : List ℕ) → IsShortTold n → parts.any_news (parts.news_bytes n ++ rest) ≡ Ok (n, rest)
+    reads n rest proper =
+        let under : IsShortEvent n.subject (uri_of n.event) n.event = record { proper = proper.event; under = refl; short = proper.short } in
+        let parted = of_3 (parts.subject_bytes n.subject) (kinds.text_bytes (uri_of n.event)) (kinds.text_bytes (event_text n.event)) in
+        subst (λ (l : List ℕ). parts.any_news (l ++ rest) ≡ Ok (n, rest)) (sym parted)
+        (read_first _ _ _ subjects_agree n.subject proper.subject _ _ rest _
+        (read_first _ _ _ texts_agree (uri_of n.event) proper.uri _ _ rest _
+        (read_last _ _ _ (events_agree n.subject (uri_of n.event)) n.event under _ rest _ refl)))
+
+    spells : (bytes : List ℕ) (n : News) (rest : List ℕ) → AreBytes bytes → parts.any_news bytes ≡ Ok (n, rest) → IsShortTold n × (bytes ≡ parts.news_bytes n ++ rest)
+    spells bytes n rest are h =
+        let a = then_spells IsShortSubject parts.subject_bytes parts.subject subjects_agree _ bytes n rest are h in
+        let b = then_spells IsProperText kinds.text_bytes kinds.text texts_agree _ a.mid n rest a.are a.then in
+        let c = then_spells (IsShortEvent a.value b.value) (λ e. kinds.text_bytes (event_text e)) (ruled (parts.event_in a.value b.value) kinds.text) (events_agree a.value b.value) _ b.mid n rest b.are b.then in
+        let found = given_same (news a.value c.value) n c.mid rest c.then in
+        let uri : kinds.text_bytes b.value ≡ kinds.text_bytes (uri_of c.value) = ap kinds.text_bytes (sym c.proper.under) in
+        let tail = joined_spelling a.mid (kinds.text_bytes (uri_of c.value)) b.mid (kinds.text_bytes (event_text c.value)) c.mid (b.spelt ∙ ap (λ (l : List ℕ). l ++ b.mid) uri) c.spelt in
+        let all = joined_spelling bytes (parts.subject_bytes a.value) a.mid (kinds.text_bytes (uri_of c.value) ++ kinds.text_bytes (event_text c.value)) c.mid a.spelt tail in
+        let proper : IsShortTold (news a.value c.value) = record {
+          subject = a.proper;
+          uri = subst IsProperText (sym c.proper.under) b.proper;
+          event = c.proper.proper;
+          short = c.proper.short;
+        } in
+        let parted = of_3 (parts.subject_bytes a.value) (kinds.text_bytes (uri_of c.value)) (kinds.text_bytes (event_text c.value)) in
+        (subst IsShortTold found.0 proper, all ∙ ap (λ (l : List ℕ). l ++ c.mid) (sym parted) ∙ (λ i. parts.news_bytes (found.0 i) ++ found.1 i))

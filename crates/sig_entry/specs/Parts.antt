@@ -137,6 +137,14 @@ told_news = do
   e ← ruled (event_in s uri) kinds.text
   given (news s e)
 
+-- news of any type, as a token tells them
+abbrev pub any_news : List ℕ → Result (News × List ℕ) (List ℕ)
+any_news = do
+  s ← subject
+  uri ← kinds.text
+  e ← ruled (event_in s uri) kinds.text
+  given (news s e)
+
 -- ---- tokens that are owed no more
 
 abbrev pub settled_bytes : SettledItem → List ℕ

@@ -5,7 +5,7 @@ use Rattle.sig_fields.specs.Agreeing.{IsProperList, IsProperMaybe, IsProperText}
 use Rattle.sig_subject.specs.declared.subject.Subject.{Subject}
 use Rattle.sig_subject.specs.Written.{IsProperSubject}
 use Rattle.sig_event.specs.declared.news.News.{News}
-use Rattle.sig_event.specs.Events.{IsProperEvent, event_text, type_of_event}
+use Rattle.sig_event.specs.Events.{IsProperEvent, event_text, type_of_event, uri_of}
 use Rattle.sig_event.specs.Types.{is_published}
 use Rattle.sig_terms.specs.declared.configuration.StreamConf.{StreamConf}
 use Rattle.sig_terms.specs.declared.fact.Fact.{Fact}
@@ -37,6 +37,13 @@ pub record IsShortNews (n : News) : Type 0 where
   pub subject : IsShortSubject n.subject
   pub event : IsProperEvent n.event n.subject
   pub type : is_published (type_of_event n.event) ≡ true
+  pub short : length (event_text n.event) < 2 ^ 32
+
+-- a proper subject, and a proper event of any type about it; their texts and the URI have fewer than 2^32 bytes
+pub record IsShortTold (n : News) : Type 0 where
+  pub subject : IsShortSubject n.subject
+  pub uri : IsProperText (uri_of n.event)
+  pub event : IsProperEvent n.event n.subject
   pub short : length (event_text n.event) < 2 ^ 32
 
 abbrev pub IsProperItem : SettledItem → Type 0

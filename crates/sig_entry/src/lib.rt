@@ -20,6 +20,7 @@ mod threads;
 mod token;
 
 pub use coding::{decode, encode};
-pub use news::SubjectField;
+pub use news::{NewsField, SubjectField, ToldField};
 pub use sig_fields::DecodeFault;
+pub use streams::{ConfField, StatusField};
 pub use token::{decode_token, encode_token};

@@ -115,6 +115,28 @@ impl Field for NewsField {
     }
 }
 
+/// What a token tells: news of any type, spelled as those that are published.
+pub struct ToldField;
+
+impl Field for ToldField {
+    type Value = News;
+
+    ghost spelled = { parts.news_bytes };
+
+    ghost read = { parts.any_news };
+
+    fn put(alloc: Global, value: &News, out: &mut Vec<u8>) -> Result<(), Memory> {
+        NewsField::put(alloc, value, out)
+    }
+
+    fn take(alloc: Global, bytes: &mut Reading<'_>) -> Result<News, PartFault> {
+        let subject = SubjectField::take(alloc, bytes)?;
+        let uri = TextField::take(alloc, bytes)?;
+        let event = take_event(alloc, bytes, &subject, &uri)?;
+        Ok(News { subject, event })
+    }
+}
+
 // The URI of a type that transmitters publish.
 fn take_uri(alloc: Global, bytes: &mut Reading<'_>) -> Result<Text, PartFault>
     ensures { Takes (ruled parts.uri_in kinds.text bytes.old) result bytes.new }
