@@ -1,0 +1,2 @@
+pub mod ReadSettings
+pub mod SettingSteps

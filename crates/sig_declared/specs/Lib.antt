@@ -1,0 +1,4 @@
+pub mod Declarations
+pub mod Providers
+pub mod Settings
+pub mod Streams
