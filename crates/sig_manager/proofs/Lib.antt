@@ -1,0 +1,6 @@
+mod Whole
+mod Behind
+mod Planned
+pub mod Falling
+mod Inverted
+mod Written
