@@ -1,0 +1,7 @@
+mod Canonical
+mod ReadBack
+mod Queries
+mod WantsBack
+mod Routed
+mod Told
+mod Heard

@@ -1,0 +1,4 @@
+pub mod Configured
+pub mod Written
+pub mod Asked
+pub mod Heard
