@@ -4,5 +4,7 @@ pub mod CourierEndLemmas
 pub mod EndLemmas
 pub mod FetchEndLemmas
 pub mod LastLineLemmas
+pub mod ManageAskingLemmas
+pub mod ManageEndLemmas
 pub mod ServerEndLemmas
 pub mod StoreAskingLemmas

@@ -1,4 +1,4 @@
--- The words of `init`, `serve`, `receive`, `fetch` and `courier`.
+-- The words of `init`, `serve`, `receive`, `fetch`, `courier` and `manage`.
 use Rattle.std.specs.Prelude.{ℕ, List, [], ◌∷◌, ◌&&◌, Option, None, Some, option_and_then, option_map, bytes_eq, codes, if◌then◌else◌, nat_le, nat_lt, slice_index}
 use Rattle.std.specs.Str.{all_ascii_digits}
 use Rattle.std.specs.Str.Parse.{digits_value}
@@ -116,3 +116,20 @@ courier_words (settings ∷ store ∷ more ∷ words) = None
 abbrev pub courier_of : List (List ℕ) → Option CourierAsked
 courier_of [] = None
 courier_of (name ∷ words) = if bytes_eq name (codes "courier") then courier_words words else None
+
+-- ---- `manage`
+
+-- a name that isn't empty
+abbrev pub filled : List ℕ → Option (List ℕ)
+filled word = if is_filled word then Some word else None
+
+-- the words after the name: the settings, by their name
+abbrev pub manage_words : List (List ℕ) → Option (List ℕ)
+manage_words [] = None
+manage_words (settings ∷ []) = filled settings
+manage_words (settings ∷ more ∷ words) = None
+
+-- what words ask `manage` for; none where they don't
+abbrev pub manage_of : List (List ℕ) → Option (List ℕ)
+manage_of [] = None
+manage_of (name ∷ words) = if bytes_eq name (codes "manage") then manage_words words else None

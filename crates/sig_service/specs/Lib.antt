@@ -5,3 +5,4 @@ pub mod Outside
 pub mod ServerRuns
 pub mod FetchRuns
 pub mod CourierRuns
+pub mod ManageRuns

@@ -1,4 +1,4 @@
-//! The words of `init`, `serve`, `receive`, `fetch` and `courier`.
+//! The words of `init`, `serve`, `receive`, `fetch`, `courier` and `manage`.
 
 ghost use Rattle.std.specs.Prelude.{◌≡◌, map, option_and_then, option_map, string_bytes};
 ghost use Rattle.sig_service.specs.Asking as spec;
@@ -192,6 +192,35 @@ fn courier_ask_of<'a>(settings: &'a str, store: &'a str) -> Option<CourierAsk<'a
         return None;
     }
     Some(CourierAsk { settings, store })
+}
+
+/// What `manage` is asked for by these words, the name of settings; none exactly where they aren't `manage` and a name that isn't
+/// empty.
+pub fn manage_of(words: &[String]) -> Option<&str>
+    ensures { option_map (λ settings. settings.now) result ≡ spec.manage_of (map (λ word. string_bytes word) words.now) }
+{
+    let (name, words) = words.split_first()?;
+    if name.as_str() != "manage" {
+        return None;
+    }
+    manage_words(words)
+}
+
+// What `manage` is asked for by the words after its name.
+#[tactic(auto, using(crate::proofs::ManageAskingLemmas::manage_one))]
+fn manage_words(words: &[String]) -> Option<&str>
+    ensures { option_map (λ settings. settings.now) result ≡ spec.manage_words (map (λ word. string_bytes word) words.now) }
+{
+    if words.len() != 1 {
+        return None;
+    }
+    filled(words[0].as_str())
+}
+
+fn filled(word: &str) -> Option<&str>
+    ensures { option_map (λ settings. settings.now) result ≡ spec.filled word.now }
+{
+    if word.is_empty() { None } else { Some(word) }
 }
 
 // A number from 1 to 2^62, in decimal without leading zeros.

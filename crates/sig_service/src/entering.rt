@@ -1,6 +1,6 @@
 //! The way in: the program's words, standard input and output, and the system as the outside.
 
-use crate::running::run;
+use crate::words::run;
 use sig_program::{after_name, start, words};
 use sig_system::{ReaderSource, SystemOutside, WriterSink};
 use std::process::ExitCode;

@@ -1,4 +1,4 @@
-//! What the program does for its words, over any input, output and outside.
+//! What the program does for its words but those of `manage`, over any input, output and outside.
 
 ghost use Rattle.std.specs.Prelude.{◌≡◌, ◌<◌, ◌⊎◌, ℕ, List, [], None, Some, length, map, string_bytes, IfSome};
 ghost use Rattle.std.specs.Str.Lines.{lines};
@@ -28,15 +28,9 @@ use std::alloc::Global;
 use std::sync::Wait;
 use std::thread::Threads;
 
-/// Does what the words ask for, and answers the exit status. For the words of `serve` and `receive` it may wait for links.
-///
-/// For those words it is 0 where as many watches ran as were asked for or the door is shut, 3 where the settings couldn't be
-/// read, 10 where they are refused, 5 where a file of the store couldn't be opened or its disk failed, 6 where the store isn't
-/// there or is damaged, 7 where the door couldn't be opened or it failed, 8 where two kept values differ, 9 out of memory, and
-/// 4 where the output stopped at the last line. For those of `courier` it is 0 where the input was read to its end and all is
-/// written, 3 where the input or the settings failed, 4 where the output stopped, 5, 6, 9 and 10 as of a server, and 11 where
-/// the journal would end past 2^62 or so many bytes of the input were read. For all other words it is the one of `run_plain`.
-pub fn run<R: Threads + Wait + Sync, X: Outside, I: Source, O: Sink>(
+/// Does what the words ask for where that isn't `manage`, and answers the exit status: as `run` does, to whose other words this is
+/// no command.
+pub(crate) fn run_others<R: Threads + Wait + Sync, X: Outside, I: Source, O: Sink>(
     alloc: Global,
     rt: &R,
     words: &[String],

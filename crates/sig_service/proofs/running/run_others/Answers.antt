@@ -12,7 +12,7 @@ use Rattle.sig_service.proofs.CourierAskingLemmas.{courier_alone, server_not_cou
 use Rattle.sig_service.proofs.CourierEndLemmas.{courier_no_usage}
 use Rattle.sig_service.proofs.ServerEndLemmas.{serve_no_usage, served_whole}
 use Rattle.sig_service.proofs.StoreAskingLemmas.{given_absent, given_none, given_same, given_some, given_told, server_alone}
-use Rattle.sig_service.proofs.running.run.Goals as goal
+use Rattle.sig_service.proofs.running.run_others.Goals as goal
 
 pub returns-in-Some : goal.returns-in-Some
 returns-in-Some g c =

@@ -1,0 +1,4 @@
+mod Links
+mod MoreSteps
+mod OneStep
+mod SettingsLemmas
