@@ -20,7 +20,7 @@ from crates.unproved import made
 CHECKS = [
     [sys.executable, "-B", "tools/generate.py", "check"],
     ["tools/checks/check_examples.sh"],
-    *([sys.executable, "-B", f"tools/checks/{name}.py"] for name in ("check_stops", "check_server", "check_receiver", "check_together", "check_slow_peers", "check_crowd", "check_pushes", "check_lines", "check_metrics", "check_courier", "check_late", "check_syncs", "check_deeds", "check_documents")),
+    *([sys.executable, "-B", f"tools/checks/{name}.py"] for name in ("check_stops", "check_server", "check_receiver", "check_together", "check_slow_peers", "check_crowd", "check_pushes", "check_lines", "check_metrics", "check_courier", "check_manage", "check_late", "check_syncs", "check_deeds", "check_documents")),
 ]
 
 
