@@ -23,6 +23,7 @@ sys.dont_write_bytecode = True
 sys.path.insert(0, os.path.join(os.path.dirname(os.path.abspath(__file__)), ".."))
 from checks.check_server import Server
 from checks.served import built_program, free_port, need
+from crates.crate_list import TOP
 
 POLL = "urn:ietf:rfc:8936"
 PUSH = "urn:ietf:rfc:8935"
@@ -184,6 +185,15 @@ def cuts(server, manager):
     raise SystemExit("no run of 30 connections came to its end")
 
 
+def example(manager):
+    """The streams of `examples/manage.json`."""
+    need(manager.run([])[0] == 0, "streams that aren't declared stay")
+    with open(os.path.join(TOP, "examples/manage.json"), encoding="utf-8") as file:
+        said = json.load(file)
+    status, told = manager.run(said["streams"], bearer=said["bearer"])
+    need((status, told.splitlines()[-1]) == (0, "created 3 replaced 0 deleted 0 status 1"), f"the example ends with {status}: {told}")
+
+
 def other_hand(program, room):
     """A transmitter of another hand, also one that fails."""
     server = http.server.ThreadingHTTPServer(("127.0.0.1", 0), Other)
@@ -232,6 +242,7 @@ def main():
         rows(server, manager)
         faults(manager)
         count = cuts(server, manager)
+        example(manager)
         other_hand(program, room)
         server.kill()
     print(f"manage: two rows, {count} cuts and a transmitter of another hand: each run comes to what is declared, and a second one changes nothing")

@@ -1,6 +1,5 @@
--- The calls that a manager's requests make, where a client's bearer is put in (OpenID Shared Signals Framework 1.0,
--- sections 8.1.1 and
--- 8.1.2).
+-- The calls that a manager's requests make, where a client's bearer is put in (OpenID Shared Signals Framework 1.0, sections 8.1.1
+-- and 8.1.2).
 use Rattle.std.specs.Prelude.{◌≡◌, ◌≤◌, ℕ, List, length, Bool, Some, None, is_some, IfSome, IsUtf8, Ok}
 use Rattle.sig_json.specs.declared.limits.TheConstants.{REQUEST_BODY_BYTES}
 use Rattle.sig_http.specs.declared.message.Request.{Request}
